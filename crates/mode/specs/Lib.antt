@@ -1,0 +1,5 @@
+pub mod Rule
+pub mod Mode
+pub mod Blocks
+pub mod Words
+pub mod Scan
