@@ -9,11 +9,12 @@ use native.Mathlib.Omega.{arith}
 use lib.Dec.{ltb}
 use lib.ListN.{length, take, drop, getD, length-append, List·getD-append}
 use lib.Seq.{drop-cons, drop-at}
-use borrow.Author.Tests.{lt-ltb, le-ltb}
+use borrow.Author.Tests.{lt-ltb, le-ltb, ltb-true}
 use Rattle.mode.specs.Mode.{Generator, Settings, State, rule}
 use Rattle.mode.specs.Rule.{outs}
 use Rattle.mode.specs.Blocks.{Position, onward, blocks, keystream}
 use Rattle.mode.specs.Words.{stream, nexts, plus, Unset}
+use Rattle.mode.proofs.Cases.{picked}
 use Rattle.mode.proofs.Words.{in-between}
 
 module _ {X : Type 0} (size : ℕ) (encipher : X → List ℕ) (step : X → X) (load : List ℕ → X) where
@@ -28,6 +29,10 @@ module _ {X : Type 0} (size : ℕ) (encipher : X → List ℕ) (step : X → X) 
 
   pub onward-over : (c : X) (p : ℕ) → size ≤ suc p → onward size encipher step (at c p) ≡ at (step c) 0
   onward-over c p h = rw (le-ltb (suc p) size h)
+
+  pub onward-place : 0 < size → (p : Position X) → onward size encipher step p .place < size
+  onward-place some p =
+      picked (λ (q : Position X). q .place < size) (ltb (suc (p .place)) size) _ _ (λ e. ltb-true (suc (p .place)) size e) (λ e. some)
 
   -- so many bits on, within the block
   pub nexts-within : (n : ℕ) (c : X) (p : ℕ) → p + n < size → nexts G (at c p) n ≡ at c (p + n)

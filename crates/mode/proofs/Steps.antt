@@ -116,6 +116,22 @@ module _ (G : Generator) (S : Settings) where
   within-after s [] h w = w
   within-after s (b ∷ r) h w = within-after (rule G S .next s b) r (h .1) (within-step s (line G S s b) (line-bit s b (h .0)) w)
 
+  -- what is kept by the generator's step and holds where it is set holds of every state reached
+  generator-step : (P : G .State → Type 0) → ((g : G .State) → P g → P (G .next g)) → ((c : List ℕ) → P (G .load c))
+      → (s : State (G .State)) (v : ℕ) → P (s .generator) → P (step G S s v .generator)
+  unfolding step
+  generator-step P on set s v h =
+      staged (λ (t : State (G .State)). P (t .generator)) (s .left) _ _ _
+      (λ _. picked (λ (t : State (G .State)). P (t .generator)) (found G S s v) _ _ (λ _. on (s .generator) h) (λ _. on (s .generator) h))
+      (λ _. set (gathered G S s v))
+      (λ _. on (s .generator) h)
+
+  pub generator-keeps : (P : G .State → Type 0) → ((g : G .State) → P g → P (G .next g)) → ((c : List ℕ) → P (G .load c))
+      → (s : State (G .State)) (bs : List ℕ) → P (s .generator) → P (after (rule G S) s bs .generator)
+  generator-keeps P on set s [] h = h
+  generator-keeps P on set s (b ∷ r) h =
+      generator-keeps P on set (rule G S .next s b) r (generator-step P on set s (line G S s b) h)
+
   -- ---- line bits alone
 
   pub lines-alone : (s : State (G .State)) (bs : List ℕ) → after (rule G S) s bs ≡ fed G S s (lines G S s bs)

@@ -1,4 +1,4 @@
--- Document 01, "Numbers given instead of bits": the number of each answer.
+-- 01, "Numbers given instead of bits": the number of each refusal and of each answer.
 use Prim.Native.Nat.{ℕ}
 use Rattle.refusal.specs.declared.Refusal.{Refusal}
 use Rattle.refusal.specs.declared.Answer.{Answer}
@@ -18,3 +18,8 @@ refusalOf (Refusal.File) = 10
 abbrev pub numberOf : Answer → ℕ
 numberOf (Answer.Done) = 0
 numberOf (Answer.Refused r) = refusalOf r
+
+-- what there is after a call that was done, and after one that was refused
+abbrev pub outcome {ℓ} : {A : Type ℓ} → Answer → A → A → A
+outcome (Answer.Done) x y = x
+outcome (Answer.Refused r) x y = y

@@ -1,0 +1,10 @@
+pub mod Field
+pub mod State
+pub mod SBox
+pub mod Steps
+pub mod KeyExpansion
+pub mod WordByWord
+pub mod Cipher
+pub mod Schedule
+pub mod Block
+pub mod Inner
