@@ -1,0 +1,9 @@
+pub mod Lists
+pub mod Digits
+pub mod Packed
+pub mod Parts
+pub mod Laid
+pub mod Octets
+pub mod Ends
+pub mod Arrays
+pub mod Blank

@@ -1,0 +1,4 @@
+pub mod View
+pub mod Tests
+pub mod Inner
+pub mod Free

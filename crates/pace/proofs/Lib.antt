@@ -1,0 +1,5 @@
+pub mod Moves
+pub mod Room
+pub mod Kept
+pub mod Ticks
+pub mod Points

@@ -1,0 +1,1 @@
+// The tick over any bit rule: definitions in specs/, theorems in proofs/, no code.
