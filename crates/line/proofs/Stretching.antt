@@ -8,7 +8,7 @@ use native.Mathlib.Decide.{decLt}
 use native.Mathlib.Omega.{arith}
 use lib.Dec.{ltb}
 use lib.ListN.{length, take, drop, replicate, length-take, length-append}
-use lib.Seq.{take-take, take-append-add, drop-at, take-nil}
+use lib.Seq.{take-take, take-append-add, take-nil}
 use borrow.Author.Tests.{lt-ltb, le-ltb, ltb-true, ltb-false}
 use Rattle.mode.specs.Rule.{after, outs}
 use Rattle.mode.specs.Mode.{Generator, Settings, State, same, last}
@@ -20,10 +20,10 @@ use Rattle.mode.proofs.Streams.{carried, length-carried}
 use Rattle.mode.proofs.Stretches.{looking, scanned, dark, scan-after, scan-outs, dark-after, dark-over, dark-outs}
 use Rattle.mode.proofs.Blocks.{nexts-within, nexts-over, stream-within}
 use Rattle.bits.specs.Bits.{bitsOf, pack, digits, numberOn, number, part, laid, wrote}
-use Rattle.bits.proofs.Lists.{Small, zeros, small-take}
+use Rattle.bits.proofs.Lists.{small-take}
 use Rattle.bits.proofs.Digits.{length-digits, number-digits}
-use Rattle.bits.proofs.Packed.{length-bits, length-pack, bits-pack, small-bits, pack-rest}
-use Rattle.bits.proofs.Laid.{laid-is, wrote-laid}
+use Rattle.bits.proofs.Packed.{length-bits, length-pack, small-bits}
+use Rattle.bits.proofs.Laid.{laid-pack, wrote-laid}
 use Rattle.aes.specs.Cipher.{aes128}
 use Rattle.aes.proofs.Schedule.{aes-length}
 use Rattle.counter.specs.declared.Position.{Position as Kept}
@@ -57,7 +57,7 @@ unfolding scan
 scan-most p w [] = omega arith
 scan-most p w (v ∷ vs) = scan-one-more p w v vs (scan-most p (last (length p - 1) (w ++ (v ∷ []))) vs)
 
--- ---- bits laid behind packed bits
+-- ---- the first bits of the first bits
 
 take-min : (n m : ℕ) (l : List ℕ) → take n (take m l) ≡ take (min n m) l
 take-min zero m l = let e : 0 ≡ min 0 m = omega arith in ap (λ (k : ℕ). take k l) e
@@ -66,16 +66,6 @@ take-min (suc n) (suc m) [] = sym (take-nil (min (suc n) (suc m)))
 take-min (suc n) (suc m) (x ∷ l) =
     let e : suc (min n m) ≡ min (suc n) (suc m) = omega arith in
     ap (λ (t : List ℕ). x ∷ t) (take-min n m l) ∙ ap (λ (k : ℕ). take k (x ∷ l)) e
-
-pub laid-pack : (n : ℕ) (c r : List ℕ) → Small c → length c + length r ≤ 8 * n → laid (pack n c) (length c) r ≡ pack n (c ++ r)
-laid-pack n c r h few =
-    let k : ℕ = (length c + length r + 7) / 8 in
-    let e : n ≡ k + (n - k) = omega arith in
-    let behind : drop k (pack n c) ≡ zeros (n - k) =
-    ap (drop k) (pack-rest n k (n - k) c e (omega arith)) ∙ drop-at (pack k c) (zeros (n - k)) k (length-pack k c) in
-    laid-is (pack n c) (length c) r k refl
-    ∙ (λ i. pack k (bits-pack n c h (omega arith) i ++ r) ++ behind i)
-    ∙ sym (pack-rest n k (n - k) (c ++ r) e (rw (length-append c r) (omega arith)))
 
 module _ (s : Line) (g : Good s) where
   abbrev G : Generator

@@ -86,12 +86,3 @@ module _ (a b r : List ℕ) (i : ℕ) (s : Summed a b r i) where
   summed h =
       let both : length a ≡ length b = s .long-a ∙ sym (s .long-b) in
       ap bitsOf (sym (take-all i r (omega (arith, s .long))) ∙ s .done ∙ take-all i (xors a b) (omega (arith, length-xors a b both, s .long-a))) ∙ bits-xors a b both
-
--- ---- the first sums are the sums of the first bits
-
-pub take-plus : (n : ℕ) (x y : List ℕ) → take n (plus x y) ≡ plus (take n x) (take n y)
-unfolding plus
-take-plus zero x y = refl
-take-plus (suc n) [] y = refl
-take-plus (suc n) (x ∷ a) [] = refl
-take-plus (suc n) (x ∷ a) (y ∷ b) = ap (λ (l : List ℕ). (x + y) % 2 ∷ l) (take-plus n a b)

@@ -28,12 +28,19 @@ bits-plus [] k e = tt
 bits-plus (x ∷ a) [] e = absurd (omega arith)
 bits-plus (x ∷ a) (y ∷ k) e = (omega arith, bits-plus a k (omega arith))
 
--- the sums of the first bits are the first sums
-pub take-plus : (n : ℕ) (G : Generator) (g : G .State) (bs : List ℕ) → take n (plus bs (stream G g (length bs))) ≡ plus (take n bs) (stream G g (length (take n bs)))
+-- the first sums are the sums of the first bits
+pub take-plus : (n : ℕ) (x y : List ℕ) → take n (plus x y) ≡ plus (take n x) (take n y)
 unfolding plus
-take-plus zero G g bs = refl
-take-plus (suc n) G g [] = refl
-take-plus (suc n) G g (b ∷ r) = ap (λ (l : List ℕ). (b + G .bit g) % 2 ∷ l) (take-plus n G (G .next g) r)
+take-plus zero x y = refl
+take-plus (suc n) [] y = refl
+take-plus (suc n) (x ∷ a) [] = refl
+take-plus (suc n) (x ∷ a) (y ∷ b) = ap (λ (l : List ℕ). (x + y) % 2 ∷ l) (take-plus n a b)
+
+-- the first bits of a stretch of keystream are a shorter stretch
+pub take-stream : (n : ℕ) (G : Generator) (g : G .State) (bs : List ℕ) → take n (stream G g (length bs)) ≡ stream G g (length (take n bs))
+take-stream zero G g bs = refl
+take-stream (suc n) G g [] = refl
+take-stream (suc n) G g (b ∷ r) = ap (λ (l : List ℕ). G .bit g ∷ l) (take-stream n G (G .next g) r)
 
 pub carried-more : (G : Generator) (S : Settings) (g : G .State) (b : ℕ) (r : List ℕ)
     → carried G S g (b ∷ r) ≡ cond (S .sending) ((b + G .bit g) % 2) b ∷ carried G S (G .next g) r

@@ -13,7 +13,7 @@ use Rattle.mode.specs.Words.{stream, nexts, plus, Unset}
 use Rattle.mode.specs.Scan.{Scan, scan}
 use Rattle.mode.proofs.Cases.{picked, take-take-append}
 use Rattle.mode.proofs.Steps.{step-looks, step-found, step-dark, step-last}
-use Rattle.mode.proofs.Streams.{carried, carried-more, take-plus}
+use Rattle.mode.proofs.Streams.{carried, carried-more, take-plus, take-stream}
 use Rattle.mode.proofs.Words.{in-between, dark-unset}
 
 module _ (G : Generator) (S : Settings) where
@@ -67,7 +67,8 @@ module _ (G : Generator) (S : Settings) where
   pub scan-outs : (g : G .State) (w : List ℕ) (bs : List ℕ)
       → outs (rule G S) (looking g w) (take (scanning g w bs .count) bs) ≡ take (scanning g w bs .count) (plus bs (stream G g (length bs)))
   scan-outs g w bs =
-      in-between G S (looking g w) (take (scanning g w bs .count) bs) (scans bs g w .1) ∙ sym (take-plus (scanning g w bs .count) G g bs)
+      in-between G S (looking g w) (take (scanning g w bs .count) bs) (scans bs g w .1)
+      ∙ sym (take-plus (scanning g w bs .count) bs (stream G g (length bs)) ∙ ap (plus (take (scanning g w bs .count) bs)) (take-stream (scanning g w bs .count) G g bs))
 
   -- ---- in a blackout
 

@@ -7,11 +7,11 @@ use native.Mathlib.Omega.{arith}
 use lib.ListN.{length, take}
 use borrow.Author.Needs.{needs}
 use Rattle.mode.specs.Words.{plus}
+use Rattle.mode.proofs.Streams.{take-plus}
 use Rattle.bits.specs.Bits.{bitsOf, pack, part}
 use Rattle.bits.proofs.Parts.{pack-part}
 use Rattle.bits.proofs.Arrays.{array-length}
 use Rattle.line.specs.Inner.{Covers}
-use Rattle.line.proofs.Sums.{take-plus}
 use Rattle.line.proofs.cover.cover.Statement.{statement}
 use Rattle.line.proofs.cover.cover.Tie as tie
 
