@@ -18,7 +18,7 @@ use Rattle.line.specs.View.{ruleOf, view, holding}
 use Rattle.line.specs.Inner.{Good, Ready, Room, Ran}
 use Rattle.line.proofs.Records.{bits-of, holds, view-ran}
 
-small-outs : (G : Generator) (S : Settings) (t : State (G .State)) (bs : List ℕ) → Small (outs (rule G S) t bs)
+pub small-outs : (G : Generator) (S : Settings) (t : State (G .State)) (bs : List ℕ) → Small (outs (rule G S) t bs)
 small-outs G S t [] i = omega arith
 small-outs G S t (b ∷ r) zero = omega arith
 small-outs G S t (b ∷ r) (suc i) = small-outs G S (rule G S .next t b) r i

@@ -84,7 +84,7 @@ module _ (G : Generator) (S : Settings) where
 
   -- ---- two receivers that fell back into step recover equal bits for as long as the line bits stay equal
 
-  received : (s : State (G .State)) (vs : List ℕ) → after (receives G S) s vs ≡ fed G S s vs
+  pub received : (s : State (G .State)) (vs : List ℕ) → after (receives G S) s vs ≡ fed G S s vs
   received s vs = lines-alone G _ s vs ∙ ap (fed G _ s) (received-lines G S s vs) ∙ fed-toward G S _ s vs
 
   pub recover-equal : (s t : State (G .State)) (us : List ℕ) (v : ℕ) (ws zs : List ℕ) → 1 ≤ S .lasts → Finds G S s us v → Finds G S t us v

@@ -1,0 +1,4 @@
+pub mod Unique
+pub mod Refusals
+pub mod FreeLine
+pub mod Points

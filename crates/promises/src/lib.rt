@@ -1,0 +1,1 @@
+// What is promised of lines, as theorems over the public functions' own contracts: no code.
