@@ -26,7 +26,7 @@ pub struct Covered {
 }
 
 // n bits of the input from bit `from` on, under the keystream bits of a block from a place on.
-pub fn cover(
+pub(crate) fn cover(
     input: &[u8],
     from: usize,
     n: usize,

@@ -67,7 +67,7 @@ fn piece(input: &[u8], output: &mut [u8], from: usize, n: usize, g: Going) -> Go
 }
 
 // A run of n bits from bit 0 on, in pieces of at most 4,096 bits: the two runs call each other at each match, and a piece bounds how deep that goes.
-pub fn whole(line: Line, n: usize, input: &[u8], output: &mut [u8]) -> Line
+pub(crate) fn whole(line: Line, n: usize, input: &[u8], output: &mut [u8]) -> Line
     requires { ⌜ Good line ⌝ }
     requires { ⌜ Room (now input) (now output) 0 n ⌝ }
     ensures { λ r. ⌜ Whole (now (input .entry)) (now (output .entry)) n line r (now (output .exit)) ⌝ }

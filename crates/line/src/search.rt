@@ -12,7 +12,7 @@ pub struct Finding {
 }
 
 // The earliest match in the first n of these bits.
-pub fn search(bits: [u8; 16], n: usize, window: u8, seen: u8, pattern: u8) -> Finding
+pub(crate) fn search(bits: [u8; 16], n: usize, window: u8, seen: u8, pattern: u8) -> Finding
     requires { ⌜ (n ≤ 128) × (seen ≤ 7) × (window < 2 ^ seen) ⌝ }
     ensures { λ r. ⌜ Found bits n window seen pattern r ⌝ }
 {

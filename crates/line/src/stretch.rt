@@ -23,14 +23,14 @@ pub struct Stretch {
     pub done: usize,
 }
 
-pub fn least(a: usize, b: usize) -> usize
+pub(crate) fn least(a: usize, b: usize) -> usize
     ensures { λ r. ⌜ r ≡ min a b ⌝ }
 {
     if a < b { a } else { b }
 }
 
 // The line with its keystream block: made anew where the place is the first of a block.
-pub fn settle(line: Line, block: [u8; 16]) -> Going
+pub(crate) fn settle(line: Line, block: [u8; 16]) -> Going
     requires { ⌜ ((line .position .place ≡ 0 → ⊥) → block ≡ aes128 (line .key) (line .position .counter)) ⌝ }
     ensures { λ r. ⌜ (r .line ≡ line) × (r .block ≡ aes128 (line .key) (line .position .counter)) ⌝ }
 {
@@ -84,7 +84,13 @@ fn scanned_to(line: Line, f: Finding) -> Line
 }
 
 // A stretch of scanning.
-pub fn scan_stretch(input: &[u8], output: &mut [u8], from: usize, n: usize, g: Going) -> Stretch
+pub(crate) fn scan_stretch(
+    input: &[u8],
+    output: &mut [u8],
+    from: usize,
+    n: usize,
+    g: Going,
+) -> Stretch
     requires { ⌜ Ready g ⌝ }
     requires { ⌜ Room (now input) (now output) from n ⌝ }
     requires { ⌜ (0 < n) × (g .line .left ≡ 0) ⌝ }
@@ -147,7 +153,13 @@ fn darkened_by(line: Line, carried: [u8; 16], m: usize) -> Line
 }
 
 // A stretch of a blackout.
-pub fn dark_stretch(input: &[u8], output: &mut [u8], from: usize, n: usize, g: Going) -> Stretch
+pub(crate) fn dark_stretch(
+    input: &[u8],
+    output: &mut [u8],
+    from: usize,
+    n: usize,
+    g: Going,
+) -> Stretch
     requires { ⌜ Ready g ⌝ }
     requires { ⌜ Room (now input) (now output) from n ⌝ }
     requires { ⌜ (0 < n) × (0 < g .line .left) ⌝ }
