@@ -1,13 +1,13 @@
 -- The last byte touched: its bits past the end become 0. So octets that go on past the end, and are cleared from there on, are the bits asked for. Assumes nothing.
 --     clear-byte        the code's way to clear
---     read-is, write-is     what `read` gives and `write` leaves, from what the steps in them ensure
+--     draw-is, read-is, write-is     what `draw`, `read` and `write` give, from what the steps in them ensure
 use mathlib.Core.Path.{_≡_, refl, sym, ap, _∙_}
 use mathlib.Core.List.{List, [], _∷_, _++_, append-nil}
 use Prim.Native.Nat.{ℕ, min, _+_, _-_, _*_, _/_, _%_, _^_, _≤_, _<_}
 use native.Mathlib.Numerals.{add-one}
 use native.Mathlib.Decide.{decLt}
 use native.Mathlib.Omega.{arith}
-use lib.ListN.{length, getD, take, drop, set, length-append, length-take}
+use lib.ListN.{length, getD, take, drop, set, length-append, length-take, drop-of-length-le}
 use lib.Seq.{set-split, take-append-le, take-append-add, take-at, drop-at, drop-drop, length-take-le}
 use Rattle.bits.specs.Bits.{bitsOf, pack, part, laid, wrote, digits}
 use Rattle.bits.proofs.Lists.{Small, Bytes, zeros, drop-zeros, small-append, alike-take, bytes-take, bytes-drop, bytes-append}
@@ -48,6 +48,20 @@ cut-packed k m r d e h =
 
 small-coming : (q high : ℕ) (s : List ℕ) → Small (coming q high s)
 small-coming q high s = small-append (digits q high) (bitsOf s) (small-digits q high) (small-bits s)
+
+-- a buffer filled with octets from end to end
+pub draw-is : (s : List ℕ) (from high n : ℕ) (d u : List ℕ) → high ≡ getD s (from / 8) 0 → n ≡ length d
+    → u ≡ pack (n - 0) (coming (8 - from % 8) high (drop (from / 8 + 1) s)) ++ drop n d
+    → u ≡ pack (length d) (drop from (bitsOf s))
+draw-is s from high n d u eh en eu =
+    let f : 8 * (from / 8) + from % 8 ≡ from = omega arith in
+    let o : n - 0 ≡ length d = omega arith in
+    let none : drop n d ≡ [] = drop-of-length-le d {i = n} (omega arith) in
+    eu
+    ∙ (λ i. pack (o i) (coming (8 - from % 8) (eh i) (drop (from / 8 + 1) s)) ++ none i)
+    ∙ append-nil (pack (length d) (coming (8 - from % 8) (getD s (from / 8) 0) (drop (from / 8 + 1) s)))
+    ∙ pack-alike (length d) (coming (8 - from % 8) (getD s (from / 8) 0) (drop (from / 8 + 1) s)) (drop (8 * (from / 8) + from % 8) (bitsOf s)) (coming-from s (from / 8) (from % 8) (omega arith))
+    ∙ ap (λ (j : ℕ). pack (length d) (drop j (bitsOf s))) f
 
 -- the sixteen bytes of zeros, filled with octets and cleared from bit m on
 pub read-is : (s : List ℕ) (from n m high : ℕ) (u v : List ℕ) → m ≡ min n 128 → high ≡ getD s (from / 8) 0

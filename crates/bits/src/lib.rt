@@ -42,6 +42,15 @@ pub fn write(d: &mut [u8], at: usize, b: [u8; 16], n: usize)
     }
 }
 
+// Fills d with the bits of s from bit `from` on, zeros where they run out.
+pub fn draw(d: &mut [u8], s: &[u8], from: usize)
+    ensures { λ _. ⌜ now (d .exit) ≡ pack (length (now (d .entry))) (drop from (bitsOf (now (s .entry)))) ⌝ }
+{
+    let j = from / 8;
+    let end = d.len();
+    pour(d, 0, end, s, j + 1, byte(s, j), 8 - from % 8);
+}
+
 // The smaller of the two.
 fn at_most(n: usize, most: usize) -> usize
     ensures { λ r. ⌜ r ≡ min n most ⌝ }
@@ -50,7 +59,7 @@ fn at_most(n: usize, most: usize) -> usize
 }
 
 // Byte i of s; 0 past its end.
-fn byte(s: &[u8], i: usize) -> u8
+pub fn byte(s: &[u8], i: usize) -> u8
     ensures { λ r. ⌜ r ≡ getD (now (s .entry)) i 0 ⌝ }
 {
     if i < s.len() { s[i] } else { 0 }

@@ -12,6 +12,7 @@ use Rattle.bits.specs.Bits.{part, laid}
 use Rattle.bits.proofs.Lists.{Small}
 use Rattle.bits.proofs.Parts.{small-part, length-part, part-none, part-split}
 use Rattle.bits.proofs.Laid.{laid-laid, length-laid}
+use Rattle.aes.specs.Cipher.{aes128}
 use Rattle.line.specs.declared.record.Line.{Line}
 use Rattle.line.specs.declared.stretch.Going.{Going}
 use Rattle.line.specs.View.{ruleOf, view, holding}
@@ -72,6 +73,13 @@ ran-none s d f k g z ready clean =
       line = sym (holds (g .line) (ready .good)) ∙ ap (λ (b : List ℕ). holding (g .line) (after (ruleOf (g .line)) (view (g .line)) b)) e;
       out = sym clean ∙ ap (λ (b : List ℕ). laid d f (outs (ruleOf (g .line)) (view (g .line)) b)) e;
     }
+
+-- a line with the keystream block of its counter
+abbrev pub going : Line → Going
+going s = record { line = s; block = aes128 (s .key) (s .position .counter) }
+
+pub going-ready : (s : Line) → Good s → Ready (going s)
+going-ready s g = record { good = g; block = refl }
 
 -- in the middle of a run of n bits of s into d from bit f on: i is the next bit, h the line with its block, e the output
 pub record Along (s d : List ℕ) (f n : ℕ) (g : Going) (end : ℕ) (e : List ℕ) (h : Going) (i : ℕ) : Type 0 where

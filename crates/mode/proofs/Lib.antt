@@ -5,3 +5,4 @@ pub mod Streams
 pub mod Words
 pub mod Stretches
 pub mod Blocks
+pub mod Ends

@@ -3,3 +3,4 @@ pub mod Mode
 pub mod Blocks
 pub mod Words
 pub mod Scan
+pub mod Ends

@@ -2,3 +2,5 @@ pub mod Unique
 pub mod Refusals
 pub mod FreeLine
 pub mod Points
+pub mod PacedLine
+pub mod PacedRefusals

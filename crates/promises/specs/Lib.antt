@@ -1,2 +1,3 @@
 pub mod Points
 pub mod Calls
+pub mod Ticking

@@ -1,0 +1,14 @@
+pub mod Tests
+pub mod Areas
+pub mod Sixteen
+pub mod Looking
+pub mod Listing
+pub mod Freely
+pub mod Stored
+pub mod ReadBack
+pub mod Pieces
+pub mod FewEnds
+pub mod AllStored
+pub mod Appended
+pub mod Ticking
+pub mod Pacing

@@ -1,0 +1,47 @@
+-- The ends of patterns depend on the window and the blackout bits left, which the line bits alone move: not on the generator, nor on what is collected.
+use mathlib.Core.Path.{_≡_, refl, sym, ap, _∙_}
+use mathlib.Core.Bool.{Bool, true, false, cond}
+use mathlib.Core.List.{List, [], _∷_}
+use Prim.Native.Nat.{ℕ, zero, suc, _+_, _-_, _*_, _≤_, min}
+use native.Mathlib.Omega.{arith}
+use lib.ListN.{length}
+use Rattle.mode.specs.Mode.{Generator, Settings, State, stage, same, last, seen, found, step, opened}
+use Rattle.mode.specs.Ends.{ended, ends, silent, patternEnds}
+use Rattle.mode.proofs.Cases.{picked, staged}
+
+-- the settings of a scanner that collects nothing
+abbrev pub collectsNone : Settings → Settings
+collectsNone S = record { pattern = S .pattern; collects = 0; lasts = S .lasts; sending = S .sending }
+
+-- the state of a scanner: the window and the blackout bits left
+abbrev pub scanner : List ℕ → ℕ → State (Unit {0})
+scanner w l = record { generator = tt; window = w; left = l; collected = [] }
+
+module _ (G : Generator) (S : Settings) where
+  abbrev pub bare : State (G .State) → State (Unit {0})
+  bare s = scanner (s .window) (s .left)
+
+  bare-stage : (l : ℕ) (x y z : State (G .State)) → bare (stage l x y z) ≡ stage l (bare x) (bare y) (bare z)
+  bare-stage zero x y z = refl
+  bare-stage (suc zero) x y z = refl
+  bare-stage (suc (suc k)) x y z = refl
+
+  bare-cond : (f : Bool) (x y : State (G .State)) → bare (cond f x y) ≡ cond f (bare x) (bare y)
+  bare-cond true x y = refl
+  bare-cond false x y = refl
+
+  bare-step : (s : State (G .State)) (v : ℕ) → step silent (collectsNone S) (bare s) v ≡ bare (step G S s v)
+  unfolding step
+  bare-step s v = sym (bare-stage (s .left) _ _ _ ∙ ap (λ (t : State (Unit {0})). stage (s .left) t (scanner [] 0) (scanner [] (s .left - 1))) (bare-cond (found G S s v) _ _))
+
+  pub ends-bare : (vs : List ℕ) (i : ℕ) (s : State (G .State)) → ends silent (collectsNone S) i (bare s) vs ≡ ends G S i s vs
+  unfolding ends
+  ends-bare [] i s = refl
+  ends-bare (v ∷ vs) i s =
+      let rest : ends silent (collectsNone S) (suc i) (step silent (collectsNone S) (bare s) v) vs ≡ ends G S (suc i) (step G S s v) vs =
+      ap (λ (t : State (Unit {0})). ends silent (collectsNone S) (suc i) t vs) (bare-step s v) ∙ ends-bare vs (suc i) (step G S s v) in
+      λ k. cond (ended G S s v) (suc i ∷ rest k) (rest k)
+
+-- from an opening on they are the same over every generator
+pub ends-alone : (G : Generator) (S : Settings) (g : G .State) (vs : List ℕ) → patternEnds S vs ≡ ends G S 0 (opened g) vs
+ends-alone G S g vs = sym (ends-bare silent S vs 0 (opened tt)) ∙ ends-bare G S vs 0 (opened g)

@@ -1,0 +1,9 @@
+pub mod Joining
+pub mod Appending
+pub mod Records
+pub mod Moves
+pub mod Blocks
+pub mod Rest
+pub mod Replies
+pub mod Starts
+pub mod Reached

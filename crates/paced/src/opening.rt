@@ -1,0 +1,85 @@
+// Opening a paced line (01, "The tick", "Numbers given instead of bits").
+use super::answer::Reply;
+use super::record::Paced;
+use super::tests;
+use counter::Position;
+use line::record::Line;
+use refusal::Answer;
+use refusal::Refusal;
+ghost use mathlib.Core.Path.{_≡_};
+ghost use Rattle.paced.specs.Opening.{empty as emptyOf, opening as openingOf, zeroPaced};
+
+// A line that paces and holds nothing but fillers.
+fn empty(line: Line, d: u8, fillers: u16) -> Paced
+    ensures { λ r. ⌜ r ≡ emptyOf line d fillers ⌝ }
+{
+    Paced {
+        line,
+        d,
+        closed: false,
+        ready: 0,
+        waiting: 0,
+        fillers,
+        queue: [0u8; 60],
+    }
+}
+
+// A record of zeros.
+fn zero() -> Paced
+    ensures { λ r. ⌜ r ≡ zeroPaced ⌝ }
+{
+    let line = Line {
+        key: [0u8; 16],
+        pattern: 0,
+        l: 0,
+        receiving: false,
+        position: Position {
+            counter: [0u8; 16],
+            place: 0,
+        },
+        window: 0,
+        seen: 0,
+        left: 0,
+        iv: [0u8; 16],
+        collected: 0,
+    };
+    empty(line, 0, 0)
+}
+
+// Opens a line, sending or receiving, with M fillers.
+pub fn open(key: &[u8], iv: &[u8], pattern: u8, l: u64, receiving: bool, d: u64) -> Reply
+    ensures { λ r. ⌜ r ≡ openingOf (now (key .entry)) (now (iv .entry)) pattern l receiving d ⌝ }
+{
+    let none = zero();
+    if key.len() != 16 {
+        return Reply {
+            answer: Answer::Refused(Refusal::Key),
+            line: none,
+        };
+    }
+    if iv.len() != 16 {
+        return Reply {
+            answer: Answer::Refused(Refusal::Iv),
+            line: none,
+        };
+    }
+    if (l < 1) | (11 < l) {
+        return Reply {
+            answer: Answer::Refused(Refusal::Blackout),
+            line: none,
+        };
+    }
+    if tests::is_too_fast(d, l) {
+        return Reply {
+            answer: Answer::Refused(Refusal::Rate),
+            line: none,
+        };
+    }
+    let reply = line::free::open(key, iv, pattern, l, receiving);
+    let line = reply.line;
+    let fillers = tests::hold_of(d as usize) as u16;
+    Reply {
+        answer: Answer::Done,
+        line: empty(line, d as u8, fillers),
+    }
+}

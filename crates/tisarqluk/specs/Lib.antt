@@ -1,0 +1,4 @@
+pub mod FreeRecord
+pub mod PacedRecord
+pub mod FreeCalls
+pub mod PacedCalls
