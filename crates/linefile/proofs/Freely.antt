@@ -4,21 +4,33 @@ use mathlib.Core.Bool.{Bool, true, false}
 use mathlib.Core.List.{List, []}
 use Prim.Native.Nat.{ℕ, _+_, _-_, _*_, _/_, _<_, _≤_}
 use native.Mathlib.Omega.{arith}
-use lib.ListN.{length, take, drop, length-drop}
+use lib.ListN.{length, take, drop, replicate, length-drop}
 use lib.Seq.{take-all}
 use borrow.Author.Tests.{eq-eqb, le-ltb}
 use Rattle.mode.specs.Rule.{outs}
-use Rattle.bits.specs.Bits.{part, laid}
-use Rattle.bits.proofs.Packed.{bits-drop}
+use Rattle.bits.specs.Bits.{bitsOf, pack, part, laid}
+use Rattle.bits.proofs.Packed.{bits-drop, pack-none}
 use Rattle.line.specs.declared.record.Line.{Line}
 use Rattle.line.specs.declared.free.Reply.{Reply}
 use Rattle.line.specs.Free.{openAnswer, fresh, opening, runAnswer, written}
 use Rattle.line.specs.View.{ruleOf, view}
 use Rattle.line.specs.Inner.{Good}
 use Rattle.line.proofs.Records.{passes}
-use Rattle.paced.proofs.Starts.{good-fresh}
 use Rattle.linefile.specs.declared.reader.Settings.{Settings}
 use Rattle.linefile.specs.Run.{lineOf}
+
+pub good-fresh : (key iv : List ℕ) (pattern l : ℕ) (r : Bool) → 1 ≤ l → l ≤ 11 → pattern < 256 → Good (fresh key iv pattern l r)
+good-fresh key iv pattern l r low high p = record {
+  l-low = low;
+  l-high = high;
+  place-in = omega arith;
+  left-in = omega arith;
+  collected-is = refl;
+  seen-in = omega arith;
+  pattern-in = p;
+  window-in = omega arith;
+  iv-is = sym (pack-none 16);
+}
 
 pub opens : (key iv : List ℕ) (pattern l : ℕ) (r : Bool) → length key ≡ 16 → length iv ≡ 16 → 1 ≤ l → l ≤ 11
     → opening key iv pattern l r .line ≡ fresh key iv pattern l r
@@ -47,5 +59,5 @@ freely c s d e start n o hk hv hp low high there few room eo ee =
     let long : n ≤ 8 * length (drop start s) = simp length-drop (omega arith) in
     ee
     ∙ (λ i. written (g i) n (rest i) d)
-    ∙ runs (lineOf c) n (drop start s) d (good-fresh (c .key) (c .iv) (c .pattern) (c .l) (c .receiving) hp low high) few long room
+    ∙ runs (lineOf c) n (drop start s) d (good-fresh (c .key) (c .iv) (c .pattern) (c .l) (c .receiving) low high hp) few long room
     ∙ ap (λ (b : List ℕ). laid d 0 (outs (ruleOf (lineOf c)) (view (lineOf c)) b)) (part-from s start n)

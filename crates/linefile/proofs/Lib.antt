@@ -10,5 +10,3 @@ pub mod Pieces
 pub mod FewEnds
 pub mod AllStored
 pub mod Appended
-pub mod Ticking
-pub mod Pacing
