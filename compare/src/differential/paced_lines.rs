@@ -32,8 +32,8 @@ fn tick_and_close(
     Ok(())
 }
 
-/// Long enough for several blackouts to pass the queue; now and then shorter,
-/// down to a closing right after the opening.
+/// Long enough for several blackouts to pass the queue, and at least 200 ticks;
+/// now and then shorter, down to a closing right after the opening.
 pub fn every_l_and_d(library: &dyn EntryPoints, seed: u64) -> Result<(), Difference> {
     let mut number = 0;
     for l in 1..=11 {
@@ -44,7 +44,7 @@ pub fn every_l_and_d(library: &dyn EntryPoints, seed: u64) -> Result<(), Differe
             let mut record = buffer(&mut case.random, PacedLayout::BYTES);
             case.paced_open(&mut record, &opening, d)?;
             let d = d as usize;
-            let mut count = hold(d) + 256 * l as usize + 800;
+            let mut count = (hold(d) + 256 * l as usize + 800).max(200 * d);
             if case.random.once_in(4) {
                 count = case.random.below(count);
             }
