@@ -87,7 +87,7 @@ fn put(d: &mut [u32], k: usize, x: u32)
 }
 
 // Stores the ends of the patterns in n line bits, from bit `from` of s on, at the start of d, as many as it holds, and answers how many there are.
-pub fn list_ends(s: &[u8], from: usize, n: usize, pattern: u8, l: u8, d: &mut [u32]) -> usize
+pub(crate) fn list_ends(s: &[u8], from: usize, n: usize, pattern: u8, l: u8, d: &mut [u32]) -> usize
     requires { ⌜ (from + n ≤ 8 * length (now s)) × (from + n < 2 ^ 32) ⌝ }
     ensures { λ r. ⌜ r ≡ length (patternEnds (scannedBy pattern l) (part (now (s .entry)) from n)) ⌝ }
     ensures { λ _. ⌜ now (d .exit) ≡ sets (now (d .entry)) 0 (patternEnds (scannedBy pattern l) (part (now (s .entry)) from n)) ⌝ }
