@@ -6,3 +6,4 @@ pub mod Stretching
 pub mod Steady
 pub mod Running
 pub mod Replies
+pub mod Passing

@@ -102,6 +102,10 @@ pub done : (s : List ℕ) (r : Contents) → r ≡ contents s → r .answer ≡ 
 unfolding contents
 done s r e t = let a : readAnswer s ≡ Answer.Done = sym (ap (λ (c : Contents). c .answer) e) ∙ t in (a, e ∙ says s a)
 
+pub bits-told : (s : List ℕ) (r : Contents) → r ≡ contents s → r .answer ≡ Answer.Done
+    → (8 * r .start + r .count ≤ 8 * length s) × (8 * r .start + r .count ≤ 524288)
+bits-told s r e t = let p = done s r e t in rw (p .1) (bits-inside s (p .0))
+
 pub refused : (s : List ℕ) (r : Contents) (why : Refusal) → r ≡ contents s → r .answer ≡ Answer.Refused why → readAnswer s ≡ Answer.Refused why
 unfolding contents
 refused s r why e t = sym (ap (λ (c : Contents). c .answer) e) ∙ t

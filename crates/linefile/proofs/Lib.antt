@@ -10,3 +10,6 @@ pub mod Pieces
 pub mod FewEnds
 pub mod AllStored
 pub mod Appended
+pub mod Ticking
+pub mod Pacing
+pub mod Results

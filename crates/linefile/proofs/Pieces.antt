@@ -4,7 +4,7 @@ use mathlib.Core.List.{List, [], _∷_, _++_, append-assoc, append-nil}
 use Prim.Native.Nat.{ℕ, zero, suc, _+_, _*_, _≤_}
 use native.Mathlib.Omega.{arith}
 use native.Mathlib.Nat.{suc-mul}
-use lib.ListN.{length}
+use lib.ListN.{length, length-append}
 use Rattle.mode.specs.Rule.{Rule}
 use Rattle.pace.specs.Tick.{Held, written, ticked}
 use Rattle.pace.specs.Ticks.{joined, Each, ticks, sent}
@@ -33,6 +33,10 @@ module _ (s : List ℕ) (from D : ℕ) where
       ∙ ap (λ (l : List ℕ). l ++ part s (from + k * D) D) (pieces-joined k)
       ∙ sym (part-split s from (k * D) D)
       ∙ ap (part s from) e
+
+  pub pieces-length : (k : ℕ) → length (pieces k) ≡ k
+  pieces-length zero = refl
+  pieces-length (suc k) = length-append (pieces k) (part s (from + k * D) D ∷ []) ∙ (let e : length (pieces k) ≡ k = pieces-length k in omega (arith, e))
 
   pub pieces-each : (k : ℕ) → from + k * D ≤ 8 * length s → Each D (pieces k)
   pieces-each zero h = tt

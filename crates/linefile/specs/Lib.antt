@@ -3,3 +3,4 @@ pub mod Syncs
 pub mod Inner
 pub mod Run
 pub mod Writer
+pub mod Paces

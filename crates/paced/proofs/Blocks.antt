@@ -22,6 +22,7 @@ use Rattle.line.specs.Free.{runAnswer, running, written}
 use Rattle.line.specs.Tests.{faulty}
 use Rattle.line.specs.View.{box, aes, settings, ruleOf, view, holding}
 use Rattle.line.specs.Inner.{Good, Ran}
+use Rattle.line.proofs.Passing.{runs}
 use Rattle.line.proofs.Records.{passes, holds, bits-of, good-ran}
 use Rattle.line.proofs.Running.{small-outs, going, going-ready}
 use Rattle.pace.specs.Tick.{width, moves}
@@ -45,13 +46,7 @@ module _ (s : Line) (g : Good s) where
   -- a run of so few bits is done
   module _ (b : List ℕ) (n : ℕ) (lb : length b ≡ 16) (few : n ≤ 128) where
     done : (d : List ℕ) → length d ≡ 16 → runAnswer s n b d ≡ Answer.Done
-    unfolding runAnswer
-    done d ld =
-        let f1 : faulty s ≡ false = passes s g in
-        let f2 : ltb 524288 n ≡ false = le-ltb 524288 n (omega arith) in
-        let f3 : ltb (length b) ((n + 7) / 8) ≡ false = le-ltb (length b) ((n + 7) / 8) (omega arith) in
-        let f4 : ltb (length d) ((n + 7) / 8) ≡ false = le-ltb (length d) ((n + 7) / 8) (omega arith) in
-        simp (f1, f2, f3, f4)
+    done d ld = runs s n b d (passes s g) (omega arith) (omega arith) (omega arith)
 
     pub block-line : (d : List ℕ) (r : Reply) → length d ≡ 16 → r ≡ running s n b d → r .line ≡ next (part b 0 n)
     block-line d r ld e = ap (λ (x : Reply). x .line) e ∙ ap (λ (a : Answer). outcome a (next (part b 0 n)) s) (done d ld)

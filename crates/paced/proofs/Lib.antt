@@ -7,3 +7,4 @@ pub mod Rest
 pub mod Replies
 pub mod Starts
 pub mod Reached
+pub mod Passing

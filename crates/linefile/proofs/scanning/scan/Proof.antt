@@ -1,7 +1,7 @@
 -- The bits of a file that is not refused lie inside it, and what the scanner lists of them is what the file's definition says.
 use mathlib.Core.Path.{_≡_, refl}
 use mathlib.Core.List.{List}
-use Prim.Native.Nat.{ℕ, _+_, _*_, _≤_}
+use Prim.Native.Nat.{ℕ, _*_}
 use native.Mathlib.Omega.{arith}
 use lib.ListN.{length}
 use lib.Seq.{sets}
@@ -14,13 +14,9 @@ use Rattle.linefile.specs.declared.reader.Contents.{Contents}
 use Rattle.linefile.specs.declared.scanning.Syncs.{Syncs}
 use Rattle.linefile.specs.File.{contents}
 use Rattle.linefile.specs.Syncs.{scanned, synced, syncsLeft}
-use Rattle.linefile.proofs.Areas.{bits-inside, done, refused}
+use Rattle.linefile.proofs.Areas.{bits-told, done, refused}
 use Rattle.linefile.proofs.scanning.scan.Statement.{statement}
 use Rattle.linefile.proofs.scanning.scan.Tie as tie
-
-inside : (s : List ℕ) (r : Contents) → r ≡ contents s → r .answer ≡ Answer.Done
-    → (8 * r .start + r .count ≤ 8 * length s) × (8 * r .start + r .count ≤ 524288)
-inside s r e t = let p = done s r e t in rw (p .1) (bits-inside s (p .0))
 
 -- the ends that a file's contents give
 abbrev given : List ℕ → Contents → List ℕ
@@ -33,12 +29,12 @@ told s d r n e q t en ee = let p = done s r q t in rw (en, ee, p .1, p .0) (refl
 mul-list-ends : tie.Need-mul-list-ends
 mul-list-ends c =
     let r = c .before .before .before in
-    omega (arith, inside (r .before .before .before .args .file .now) (r .read .result) (r .read .ensures) (c .before .enum-told .given .1) .1)
+    omega (arith, bits-told (r .before .before .before .args .file .now) (r .read .result) (r .read .ensures) (c .before .enum-told .given .1) .1)
 
 list-ends-requires : tie.Need-list-ends-requires
 list-ends-requires c κs =
     let r = c .before .before .before .before in
-    let i = inside (r .before .before .before .args .file .now) (r .read .result) (r .read .ensures) (c .before .before .enum-told .given .1) in
+    let i = bits-told (r .before .before .before .args .file .now) (r .read .result) (r .read .ensures) (c .before .before .enum-told .given .1) in
     (i .0, omega (arith, i .1))
 
 returns : tie.Need-returns

@@ -1,0 +1,21 @@
+-- An opening or a run whose input passes every test is done.
+use mathlib.Core.Path.{_≡_, ap}
+use mathlib.Core.Bool.{false}
+use mathlib.Core.List.{List}
+use Prim.Native.Nat.{ℕ, _+_, _*_, _/_, _≤_}
+use native.Mathlib.Omega.{arith}
+use lib.ListN.{length}
+use borrow.Author.Tests.{eq-eqb, le-ltb}
+use Rattle.refusal.specs.declared.Answer.{Answer}
+use Rattle.line.specs.declared.record.Line.{Line}
+use Rattle.line.specs.Free.{openAnswer, runAnswer}
+use Rattle.line.specs.Tests.{faulty}
+
+pub opens : (key iv : List ℕ) (l : ℕ) → length key ≡ 16 → length iv ≡ 16 → 1 ≤ l → l ≤ 11 → openAnswer key iv l ≡ Answer.Done
+unfolding openAnswer
+opens key iv l hk hv low high = rw (eq-eqb (length key) 16 hk, eq-eqb (length iv) 16 hv, le-ltb l 1 low, le-ltb 11 l high)
+
+pub runs : (g : Line) (n : ℕ) (s d : List ℕ) → faulty g ≡ false → n ≤ 524288 → n ≤ 8 * length s → n ≤ 8 * length d → runAnswer g n s d ≡ Answer.Done
+unfolding runAnswer
+runs g n s d f few hs hd =
+    rw (f, le-ltb 524288 n few, le-ltb (length s) ((n + 7) / 8) (omega arith), le-ltb (length d) ((n + 7) / 8) (omega arith))

@@ -1,0 +1,119 @@
+-- A tick, or closing, of a line that passes the tests for 9 is not refused, and what it writes is read back from where it wrote it.
+use mathlib.Core.Path.{_≡_, refl, sym, ap, _∙_}
+use mathlib.Core.List.{List, []}
+use Prim.Native.Nat.{ℕ, _+_, _-_, _*_, _/_, _<_, _≤_}
+use native.Mathlib.Omega.{arith}
+use lib.ListN.{length, length-take}
+use Rattle.bits.specs.Bits.{pack, part, laid}
+use Rattle.bits.proofs.Lists.{Small, small-take, small-append}
+use Rattle.bits.proofs.Packed.{length-pack}
+use Rattle.bits.proofs.Parts.{small-part}
+use Rattle.bits.proofs.Laid.{length-laid, part-laid}
+use Rattle.pace.specs.Tick.{ticked}
+use Rattle.pace.proofs.Kept.{length-closing}
+use Rattle.mode.specs.Rule.{outs}
+use Rattle.line.proofs.Running.{small-outs}
+use Rattle.paced.proofs.Appending.{bits-read}
+use Rattle.line.specs.View.{aes, box, settings, ruleOf, view}
+use Rattle.paced.specs.declared.record.Paced.{Paced}
+use Rattle.linefile.specs.declared.running.Going.{Going}
+use Rattle.linefile.specs.Paces.{Roomy, Ticks, tickedOn, Closes}
+use Rattle.paced.specs.declared.answer.Ticked.{Ticked}
+use Rattle.paced.specs.declared.answer.Moved.{Moved}
+use Rattle.paced.specs.Answers.{outcome, bitsIn}
+use Rattle.paced.proofs.Passing.{ticks, closes}
+use Rattle.paced.specs.View.{viewed, keeping}
+use Rattle.paced.specs.Ticking.{leavingFrom, heldAfter, tickAnswer, ticking, tickWrites}
+use Rattle.paced.specs.Closing.{lastFrom, closeAnswer, closing, closeWrites}
+
+-- what leaves are bits, and no more of them than a tick has places
+small-leaving : (p : Paced) → Small (leavingFrom p)
+small-leaving p = small-take (p .d - p .fillers) (part (p .queue) 0 (p .ready)) (small-part (p .queue) 0 (p .ready))
+
+few-leaving : (p : Paced) → length (leavingFrom p) ≤ p .d
+few-leaving p = simp length-take (omega arith)
+
+-- bits r that lie at the start of y, as the call left it in place of z, can be laid after the first `at` bits of o
+module _ (o z y r : List ℕ) (at n : ℕ) (ey : y ≡ laid z 0 r) (en : n ≡ length r) (small : Small r) (fits : length r ≤ 8 * length z) (w : Roomy o at r) where
+  can-append : (n ≤ 8 * length y) × (at + n ≤ 8 * length o) × (at + n ≤ 524288) × (laid o at [] ≡ o)
+  can-append =
+      let l : length y ≡ length z = ap length ey ∙ length-laid z 0 r (omega arith) in
+      (omega (arith, l, en), omega (arith, en, w .room), omega (arith, en, w .few), w .clean)
+
+  appended : (e : List ℕ) → e ≡ laid o at (part y 0 n) → e ≡ laid o at r
+  appended e ee = ee ∙ ap (laid o at) ((λ i. part (ey i) 0 (en i)) ∙ part-laid z 0 r small (omega arith))
+
+module _ (g : Going) (s : List ℕ) (from d : ℕ) (o : List ℕ) (t : Ticks g s from d o) (b z y : List ℕ) (m : Moved) (n : ℕ) (eb : b ≡ pack 16 (part s from d))
+    (lz : length z ≡ 16) (em : m ≡ ticking (g .line) b z) (ey : y ≡ tickWrites (g .line) b z) (en : n ≡ bitsIn (m .answer)) where
+  abbrev p : Paced
+  p = g .line
+
+  abbrev out : List ℕ
+  out = leavingFrom p
+
+  few-d : p .d ≤ 128
+  few-d = rw (t .rate) (t .low)
+
+  answer : tickAnswer p b z ≡ Ticked.Moved (length out) (length (heldAfter p b .waiting))
+  answer =
+      let lb : length b ≡ 16 = ap length eb ∙ length-pack 16 (part s from d) in
+      ticks p (t .passes) (t .is-open) b z (omega (arith, lb, few-d)) (omega (arith, lz, few-d))
+
+  count : n ≡ length out
+  count = en ∙ ap (λ (r : Moved). bitsIn (r .answer)) em ∙ ap bitsIn answer
+
+  line : m .line ≡ tickedOn g s from .line
+  line =
+      let given : part b 0 (p .d) ≡ part s from (p .d) = rw (t .rate) (bits-read s b from d eb (t .low) (t .there)) in
+      ap (λ (r : Moved). r .line) em
+      ∙ ap (λ (a : Ticked). outcome a (keeping p (heldAfter p b)) p) answer
+      ∙ ap (λ (i : List ℕ). keeping p (ticked (ruleOf (p .line)) (p .d) (viewed p) i)) given
+
+  wrote : y ≡ laid z 0 out
+  wrote = ey ∙ ap (λ (a : Ticked). outcome a (laid z 0 out) z) answer
+
+  fits : length out ≤ 8 * length z
+  fits = omega (arith, few-leaving p, few-d, lz)
+
+  pub tick-room : (n ≤ 8 * length y) × (g .at + n ≤ 8 * length o) × (g .at + n ≤ 524288) × (laid o (g .at) [] ≡ o)
+  tick-room = can-append o z y out (g .at) n wrote count (small-leaving p) fits (t .writes)
+
+  pub tick-on : (e : List ℕ) → e ≡ laid o (g .at) (part y 0 n)
+      → (record { line = m .line; at = g .at + n } ≡ tickedOn g s from) × (e ≡ laid o (g .at) out)
+  tick-on e ee = ((λ i. record { line = line i; at = g .at + count i }), appended o z y out (g .at) n wrote count (small-leaving p) fits (t .writes) e ee)
+
+-- what closing writes are bits, as many as wait or are ready at most
+small-last : (p : Paced) → Small (lastFrom p)
+small-last p =
+    small-append (part (p .queue) 0 (p .ready)) (outs (ruleOf (p .line)) (view (p .line)) (part (p .queue) (p .ready) (p .waiting)))
+    (small-part (p .queue) 0 (p .ready)) (small-outs (aes (box (p .line))) (settings (p .line)) (view (p .line)) (part (p .queue) (p .ready) (p .waiting)))
+
+few-last : (p : Paced) → length (lastFrom p) ≤ p .waiting + p .ready
+unfolding part
+few-last p =
+    let r : length (part (p .queue) 0 (p .ready)) ≤ p .ready = simp length-take (omega arith) in
+    let w : length (part (p .queue) (p .ready) (p .waiting)) ≤ p .waiting = simp length-take (omega arith) in
+    omega (arith, length-closing (ruleOf (p .line)) (p .d) (viewed p), r, w)
+
+module _ (g : Going) (o : List ℕ) (t : Closes g o) (z y : List ℕ) (m : Moved) (n : ℕ) (lz : length z ≡ 60) (em : m ≡ closing (g .line) z)
+    (ey : y ≡ closeWrites (g .line) z) (en : n ≡ bitsIn (m .answer)) where
+  abbrev last : List ℕ
+  last = lastFrom (g .line)
+
+  close-answer : closeAnswer (g .line) z ≡ Ticked.Moved (length last) 0
+  close-answer = closes (g .line) (t .passes) (t .is-open) z (omega (arith, lz, t .holds-few))
+
+  close-count : n ≡ length last
+  close-count = en ∙ ap (λ (r : Moved). bitsIn (r .answer)) em ∙ ap bitsIn close-answer
+
+  close-wrote : y ≡ laid z 0 last
+  close-wrote = ey ∙ ap (λ (a : Ticked). outcome a (laid z 0 last) z) close-answer
+
+  close-fits : length last ≤ 8 * length z
+  close-fits = omega (arith, few-last (g .line), t .holds-few, lz)
+
+  pub close-room : (n ≤ 8 * length y) × (g .at + n ≤ 8 * length o) × (g .at + n ≤ 524288) × (laid o (g .at) [] ≡ o)
+  close-room = can-append o z y last (g .at) n close-wrote close-count (small-last (g .line)) close-fits (t .writes)
+
+  pub close-on : (e : List ℕ) → e ≡ laid o (g .at) (part y 0 n) → e ≡ laid o (g .at) last
+  close-on e ee = appended o z y last (g .at) n close-wrote close-count (small-last (g .line)) close-fits (t .writes) e ee
