@@ -14,7 +14,7 @@ use Rattle.bits.specs.Blank.{blank}
 use native.Mathlib.Numerals.{add-one}
 use Rattle.bits.proofs.Lists.{Small, Bytes, Alike, zeros, small-take}
 use Rattle.bits.proofs.Digits.{length-digits, digits-zero, digits-same}
-use Rattle.bits.proofs.Parts.{small-part}
+use Rattle.bits.proofs.Parts.{small-part, short-part}
 use Rattle.bits.proofs.Packed.{length-bits, bits-one, bits-byte, bits-drop, small-bits, length-pack, pack-bits, pack-alike, bits-pack-at}
 
 split : {P : Type 0} (x : ℕ) (b : List ℕ) → cond (eqb x 0) (blank b) false ≡ true → (x ≡ 0 → blank b ≡ true → P) → P
@@ -124,8 +124,7 @@ module _ (s : List ℕ) where
 
   module _ (from : ℕ) (first : ℕ) (f : first ≡ byteOf (part s from (8 - from % 8))) where
     few : length (part s from (8 - from % 8)) ≤ 8
-    unfolding part
-    few = simp length-take (omega arith)
+    few = omega (arith, short-part s from (8 - from % 8))
 
     pub first-blank : first ≡ 0 → blank (drop (8 * (from / 8 + 1)) (bitsOf s)) ≡ blank (drop from (bitsOf s))
     first-blank e =

@@ -2,16 +2,26 @@
 --     digits-split      the digits above a place are those of the quotient
 --     digits-at         each digit
 --     number-digits, digits-number      one way and back
+--     number-below      how large a number some digits make
 use mathlib.Core.Path.{_≡_, refl, sym, ap, _∙_}
 use mathlib.Core.List.{List, [], _∷_, _++_, append-assoc, append-nil}
-use Prim.Native.Nat.{ℕ, zero, suc, _+_, _-_, _*_, _/_, _%_, _^_, _<_}
-use native.Mathlib.Nat.{div-one}
+use Prim.Native.Nat.{ℕ, zero, suc, _+_, _-_, _*_, _/_, _%_, _^_, _<_, _≤_}
+use native.Mathlib.Nat.{div-one, le-trans, mul-le-mul-right, mul-assoc, mul-comm}
 use native.Mathlib.Omega.{arith}
 use lib.ListN.{length, getD, take, drop, length-append, List·getD-append, replicate-append-replicate}
 use lib.Seq.{take-at, drop-at, getD-at}
-use lib.Pow.{field, mod-mod-pow, shr-shr}
+use lib.Pow.{field, mod-mod-pow, shr-shr, pow-add}
 use Rattle.bits.specs.Bits.{digits, numberOn, number}
 use Rattle.bits.proofs.Lists.{Small, zeros, small-append, small-one}
+
+pub no-digits : (x : ℕ) → digits 0 x ≡ []
+unfolding digits
+no-digits x = refl
+
+-- the last digit, behind those of the half
+pub digits-more : (n x : ℕ) → digits (suc n) x ≡ digits n (x / 2) ++ (x % 2 ∷ [])
+unfolding digits
+digits-more n x = refl
 
 pub length-digits : (n x : ℕ) → length (digits n x) ≡ n
 unfolding digits
@@ -77,6 +87,10 @@ unfolding digits
 small-digits zero x i = omega arith
 small-digits (suc n) x i = small-append (digits n (x / 2)) (x % 2 ∷ []) (small-digits n (x / 2)) (small-one (x % 2) (omega arith)) i
 
+pub number-none : number [] ≡ 0
+unfolding numberOn
+number-none = refl
+
 number-append : (a : List ℕ) (b : List ℕ) (n : ℕ) → numberOn n (a ++ b) ≡ numberOn (numberOn n a) b
 unfolding numberOn
 number-append [] b n = refl
@@ -104,3 +118,22 @@ digits-number-on (v ∷ l) k a n h e =
 pub digits-number : (l : List ℕ) → Small l → digits (length l) (number l) ≡ l
 unfolding digits
 digits-number l h = digits-number-on l 0 0 (length l) h (omega arith)
+
+-- the number that some binary digits make
+number-on-below : (l : List ℕ) (a : ℕ) → Small l → numberOn a l < (a + 1) * 2 ^ length l
+unfolding numberOn
+number-on-below [] a h = omega arith
+number-on-below (v ∷ l) a h =
+    let v2 : v < 2 = h 0 in
+    let P : ℕ = 2 ^ length l in
+    let le : (a * 2 + v + 1) * P ≤ (a * 2 + 2) * P = mul-le-mul-right P (omega arith) in
+    let q : suc (length l) ≡ length l + 1 = omega arith in
+    let e : 2 ^ suc (length l) ≡ P * 2 = ap (λ (k : ℕ). 2 ^ k) q ∙ pow-add 2 (length l) 1 in
+    let on : numberOn (a * 2 + v) l < (a * 2 + v + 1) * P = number-on-below l (a * 2 + v) (λ i. h (suc i)) in
+    let r : a * 2 + 2 ≡ (a + 1) * 2 = omega arith in
+    let whole : (a * 2 + 2) * P ≡ (a + 1) * 2 ^ suc (length l) =
+    ap (λ (k : ℕ). k * P) r ∙ mul-assoc (a + 1) 2 P ∙ ap (λ (k : ℕ). (a + 1) * k) (mul-comm 2 P ∙ sym e) in
+    le-trans on (rw (← whole) le)
+
+pub number-below : (l : List ℕ) → Small l → number l < 2 ^ length l
+number-below l h = let b : numberOn 0 l < (0 + 1) * 2 ^ length l = number-on-below l 0 h in omega (arith, b)

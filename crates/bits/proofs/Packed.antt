@@ -3,18 +3,24 @@
 --     bit-at                                each bit
 --     pack-append, pack-alike               packing goes by the bits, eight at a time
 --     bits-pack, pack-bits, same-bits       one way and back
+--     pack-past                             packed anew from some bit on
 use mathlib.Core.Path.{_≡_, refl, sym, ap, _∙_}
 use mathlib.Core.List.{List, [], _∷_, _++_, append-nil}
 use Prim.Native.Nat.{ℕ, zero, suc, _+_, _-_, _*_, _/_, _%_, _^_, _≤_, _<_}
 use native.Mathlib.Nat.{zero-div, mod-lt, mod-eq-of-lt, div-div-eq-div-mul}
+use native.Mathlib.Decide.{decLt}
 use native.Mathlib.Omega.{arith}
-use lib.ListN.{length, getD, take, drop, length-take, drop-of-length-le, List·getD-append}
+use lib.ListN.{length, getD, take, drop, length-take, drop-of-length-le, List·getD-append, List·getD-eq-default}
 use lib.Seq.{ext-getD, getD-take, getD-drop, drop-at, drop-nil, drop-drop, take-length}
 use Rattle.bits.specs.Bits.{bitsOf, byteOf, pack, digits, numberOn, number}
-use Rattle.bits.proofs.Lists.{Small, Bytes, Alike, zeros, drop-first, listed, small-listed, getD-listed, listed-same, small-drop}
+use Rattle.bits.proofs.Lists.{Small, Bytes, Alike, zeros, alike-append, drop-first, listed, small-listed, getD-listed, listed-same, small-drop}
 use Rattle.bits.proofs.Digits.{length-digits, digits-at, digits-mod, number-digits, digits-number}
 
 -- ---- the bits of bytes
+
+pub no-bits : bitsOf [] ≡ []
+unfolding bitsOf
+no-bits = refl
 
 -- a byte's bits are its digits
 pub bits-byte : (x : ℕ) (s : List ℕ) → bitsOf (x ∷ s) ≡ digits 8 x ++ bitsOf s
@@ -170,6 +176,20 @@ bits-pack n r h le =
     ext-getD 0 (take (length r) (bitsOf (pack n r))) r
     (simp (length-take, length-bits-pack) (omega arith))
     (λ i lt. let k : i < length r = omega (arith, length-take (length r) (bitsOf (pack n r))) in getD-take (length r) (bitsOf (pack n r)) i 0 k ∙ bits-pack-at n r i h (omega arith))
+
+-- and zeros behind them
+alike-bits : (n : ℕ) (x : List ℕ) → Small x → length x ≤ 8 * n → Alike (bitsOf (pack n x)) x
+alike-bits n x h le i =
+    elim (decLt i (8 * n)) [
+      | yes lt ↦ bits-pack-at n x i h lt
+      | no ge ↦ List·getD-eq-default (bitsOf (pack n x)) 0 {n = i} (omega (arith, length-bits (pack n x), length-pack n x)) ∙ sym (List·getD-eq-default x 0 {n = i} (omega arith))
+    ]
+
+-- behind other bits, the bits from j on and the zeros after them are packed as the bits from j on
+pub pack-past : (n : ℕ) (p x : List ℕ) (j : ℕ) → Small x → length x ≤ 8 * n → pack n (p ++ drop j (bitsOf (pack n x))) ≡ pack n (p ++ drop j x)
+pack-past n p x j h le =
+    pack-alike n (p ++ drop j (bitsOf (pack n x))) (p ++ drop j x)
+    (alike-append p (drop j (bitsOf (pack n x))) (drop j x) (λ i. getD-drop j (bitsOf (pack n x)) i 0 ∙ alike-bits n x h le (j + i) ∙ sym (getD-drop j x i 0)))
 
 -- the bytes that the bits of bytes make are these bytes
 pub pack-bits-take : (k : ℕ) (s : List ℕ) → Bytes s → k ≤ length s → pack k (bitsOf s) ≡ take k s
