@@ -6,3 +6,4 @@ pub mod Words
 pub mod Stretches
 pub mod Blocks
 pub mod Ends
+pub mod Scans

@@ -1,7 +1,7 @@
 -- A stretch of keystream: its length, its pieces, and its sum with the bits of a line.
 use mathlib.Core.Path.{_≡_, refl, ap}
 use mathlib.Core.Bool.{Bool, true, false, cond}
-use mathlib.Core.List.{List, [], _∷_}
+use mathlib.Core.List.{List, [], _∷_, _++_}
 use Prim.Native.Nat.{ℕ, zero, suc, _+_, _%_, _<_}
 use native.Mathlib.Omega.{arith}
 use lib.ListN.{length, take}
@@ -15,6 +15,22 @@ carried G S g bs = cond (S .sending) (plus bs (stream G g (length bs))) bs
 pub length-stream : (G : Generator) (g : G .State) (n : ℕ) → length (stream G g n) ≡ n
 length-stream G g zero = refl
 length-stream G g (suc n) = ap suc (length-stream G (G .next g) n)
+
+pub plus-none : (k : List ℕ) → plus [] k ≡ []
+unfolding plus
+plus-none k = refl
+
+pub plus-one : (x y : ℕ) → plus (x ∷ []) (y ∷ []) ≡ (x + y) % 2 ∷ []
+unfolding plus
+plus-one x y = refl
+
+-- bits after bits
+pub plus-append : (a k b l : List ℕ) → length a ≡ length k → plus (a ++ b) (k ++ l) ≡ plus a k ++ plus b l
+unfolding plus
+plus-append [] [] b l e = refl
+plus-append [] (y ∷ k) b l e = absurd (omega arith)
+plus-append (x ∷ a) [] b l e = absurd (omega arith)
+plus-append (x ∷ a) (y ∷ k) b l e = ap (λ (r : List ℕ). (x + y) % 2 ∷ r) (plus-append a k b l (omega arith))
 
 pub length-plus : (a k : List ℕ) → length (plus a k) ≡ length a
 unfolding plus
