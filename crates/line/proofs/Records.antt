@@ -4,11 +4,11 @@ use mathlib.Core.Path.{_≡_, refl, sym, ap, subst, _∙_}
 use mathlib.Core.Bool.{Bool, true, false, not, cond, _||_, true≢false}
 use mathlib.Core.List.{List, [], _∷_, _++_}
 use Prim.Native.Nat.{ℕ, zero, suc, _+_, _-_, _*_, _/_, _%_, _^_, _<_, _≤_, min}
-use native.Mathlib.Nat.{le-trans, mod-lt, div-eq-of-lt, mul-le-mul-right, mul-assoc, mul-comm}
+use native.Mathlib.Nat.{mod-lt, div-eq-of-lt}
 use native.Mathlib.Omega.{arith}
 use lib.Dec.{ltb, eqb}
 use lib.ListN.{length, take, drop, length-take}
-use lib.Pow.{split, pow-pos, pow-add}
+use lib.Pow.{split, pow-pos}
 use borrow.Author.Tests.{ltb-true, ltb-false, eqb-true, eq-eqb, lt-ltb, le-ltb, not-false}
 use Rattle.mode.specs.Rule.{after}
 use Rattle.mode.specs.Mode.{Settings, State, Bits, rule}
@@ -17,9 +17,9 @@ use Rattle.mode.specs.Words.{Within, due, most}
 use Rattle.mode.proofs.Cases.{picked}
 use Rattle.mode.proofs.Steps.{within-after, generator-keeps}
 use Rattle.mode.proofs.Blocks.{onward-place}
-use Rattle.bits.specs.Bits.{bitsOf, pack, digits, numberOn, number}
+use Rattle.bits.specs.Bits.{bitsOf, pack, digits}
 use Rattle.bits.proofs.Lists.{Small, Bytes, small-take}
-use Rattle.bits.proofs.Digits.{length-digits, small-digits, number-digits, digits-number}
+use Rattle.bits.proofs.Digits.{length-digits, small-digits, number-digits, digits-number, number-below}
 use Rattle.bits.specs.Blank.{blank}
 use Rattle.bits.proofs.Blank.{blank-pack, pack-blank}
 use Rattle.bits.proofs.Packed.{length-bits, length-pack, bits-pack, small-bits}
@@ -40,25 +40,6 @@ pub small-of : (l : List ℕ) → Bits l → Small l
 small-of [] h i = omega arith
 small-of (x ∷ l) h zero = h .0
 small-of (x ∷ l) h (suc i) = small-of l (h .1) i
-
--- the number that some binary digits make
-number-on-below : (l : List ℕ) (a : ℕ) → Small l → numberOn a l < (a + 1) * 2 ^ length l
-unfolding numberOn
-number-on-below [] a h = omega arith
-number-on-below (v ∷ l) a h =
-    let v2 : v < 2 = h 0 in
-    let P : ℕ = 2 ^ length l in
-    let le : (a * 2 + v + 1) * P ≤ (a * 2 + 2) * P = mul-le-mul-right P (omega arith) in
-    let q : suc (length l) ≡ length l + 1 = omega arith in
-    let e : 2 ^ suc (length l) ≡ P * 2 = ap (λ (k : ℕ). 2 ^ k) q ∙ pow-add 2 (length l) 1 in
-    let on : numberOn (a * 2 + v) l < (a * 2 + v + 1) * P = number-on-below l (a * 2 + v) (λ i. h (suc i)) in
-    let r : a * 2 + 2 ≡ (a + 1) * 2 = omega arith in
-    let whole : (a * 2 + 2) * P ≡ (a + 1) * 2 ^ suc (length l) =
-    ap (λ (k : ℕ). k * P) r ∙ mul-assoc (a + 1) 2 P ∙ ap (λ (k : ℕ). (a + 1) * k) (mul-comm 2 P ∙ sym e) in
-    le-trans on (rw (← whole) le)
-
-pub number-below : (l : List ℕ) → Small l → number l < 2 ^ length l
-number-below l h = let b : numberOn 0 l < (0 + 1) * 2 ^ length l = number-on-below l 0 h in omega (arith, b)
 
 -- ---- the ranges of the tests are the mode's
 

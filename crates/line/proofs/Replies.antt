@@ -1,15 +1,15 @@
 -- What an opening and a run reply, from the tests that decide the answer.
-use mathlib.Core.Path.{_≡_, refl, sym, ap, subst, _∙_}
+use mathlib.Core.Path.{_≡_, ap, _∙_}
 use mathlib.Core.Bool.{Bool, true, false, cond, _||_}
 use mathlib.Core.List.{List}
 use Prim.Native.Nat.{ℕ, _+_, _*_, _/_, _<_, _≤_}
 use native.Mathlib.Omega.{arith}
 use lib.ListN.{length}
+use lib.Seq.{take-all}
 use Rattle.mode.specs.Rule.{after, outs}
-use Rattle.bits.specs.Bits.{bitsOf, pack, part, laid}
+use Rattle.bits.specs.Bits.{pack, part, laid}
 use Rattle.bits.proofs.Lists.{Bytes}
-use Rattle.bits.proofs.Packed.{pack-bits}
-use Rattle.bits.proofs.Parts.{part-all}
+use Rattle.bits.proofs.Parts.{sixteen}
 use Rattle.refusal.specs.declared.Refusal.{Refusal}
 use Rattle.refusal.specs.declared.Answer.{Answer}
 use Rattle.refusal.specs.Numbers.{outcome}
@@ -21,7 +21,7 @@ use Rattle.line.specs.Inner.{Whole}
 
 -- sixteen bytes read as 128 bits are these bytes
 pub read-whole : (s : List ℕ) → length s ≡ 16 → Bytes s → pack 16 (part s 0 128) ≡ s
-read-whole s e b = ap (pack 16) (part-all s 128 (omega (arith, e))) ∙ subst (λ (n : ℕ). pack n (bitsOf s) ≡ s) e (pack-bits s b)
+read-whole s e b = sixteen s 0 b (omega (arith, e)) ∙ take-all 16 s (omega (arith, e))
 
 module _ (key iv : List ℕ) (pattern l : ℕ) (receiving : Bool) where
   pub open-refused : (r : Refusal) → Answer.Refused r ≡ openAnswer key iv l → (z : Line) → z ≡ zeroLine

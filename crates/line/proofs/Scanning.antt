@@ -10,7 +10,9 @@ use lib.ListN.{length, getD, take, drop, length-take, drop-of-length-le}
 use lib.Seq.{drop-cons, getD-take}
 use lib.Pow.{pow-mono, pow-add, pow-pos}
 use Rattle.mode.specs.Scan.{Scan, more, scan}
+use Rattle.mode.proofs.Scans.{scan-none}
 use Rattle.bits.specs.Bits.{bitsOf, digits}
+use Rattle.bits.proofs.Digits.{no-digits}
 use Rattle.bits.proofs.Packed.{length-bits, small-bits}
 use Rattle.line.specs.declared.search.Finding.{Finding}
 use Rattle.line.specs.Inner.{within, Found}
@@ -95,20 +97,19 @@ module _ (b : List ℕ) (n window seen pattern : ℕ) where
     }
 
     pub turn-hit : 7 ≤ c → w * 2 + v ≡ pattern → Found b n window seen pattern (record { count = i + 1; window = 0; seen = 0; found = true })
-    unfolding digits
     turn-hit h e =
         let w7 : w < 2 ^ 7 = subst (λ (k : ℕ). w < 2 ^ k) (full h) (a .small) in
         let s : scan (digits 8 pattern) (digits c w) (drop i bits) ≡ record { count = 1; window = []; found = true } =
         ap (scan (digits 8 pattern) (digits c w)) next ∙ subst (λ (k : ℕ). scan (digits 8 pattern) (digits k w) (v ∷ drop (suc i) bits) ≡ record { count = 1; window = []; found = true }) (sym (full h)) (scan-hit 7 pattern w v (drop (suc i) bits) w7 bit low (a .eight) e) in
         let q : record { count = i + 1; window = []; found = true } ≡ within b n window seen pattern = ap (ahead i) (sym s) ∙ a .rest in
-        record { count = ap (λ (r : Scan). r .count) q; left = ap (λ (r : Scan). r .window) q; match = ap (λ (r : Scan). r .found) q; small = omega arith; few = omega arith }
+        record { count = ap (λ (r : Scan). r .count) q; left = no-digits 0 ∙ ap (λ (r : Scan). r .window) q; match = ap (λ (r : Scan). r .found) q; small = omega arith; few = omega arith }
 
   pub searched : (w c i : ℕ) → Searching w c i → n ≤ i → Found b n window seen pattern (record { count = n; window = w; seen = c; found = false })
-  unfolding scan
   searched w c i a h =
       let e : i ≡ n = omega (arith, a .high) in
       let z : n ≡ i + 0 = omega (arith, e) in
       let none : drop i bits ≡ [] = drop-of-length-le bits {i = i} (simp length-take (omega arith)) in
-      let s : record { count = 0; window = digits c w; found = false } ≡ scan (digits 8 pattern) (digits c w) (drop i bits) = ap (scan (digits 8 pattern) (digits c w)) (sym none) in
+      let s : record { count = 0; window = digits c w; found = false } ≡ scan (digits 8 pattern) (digits c w) (drop i bits) =
+      sym (ap (scan (digits 8 pattern) (digits c w)) none ∙ scan-none (digits 8 pattern) (digits c w)) in
       let q : record { count = i + 0; window = digits c w; found = false } ≡ within b n window seen pattern = ap (ahead i) s ∙ a .rest in
       record { count = z ∙ ap (λ (r : Scan). r .count) q; left = ap (λ (r : Scan). r .window) q; match = ap (λ (r : Scan). r .found) q; small = a .small; few = a .few }

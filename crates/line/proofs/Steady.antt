@@ -7,16 +7,15 @@ use Prim.Native.Nat.{ℕ, _+_, _-_, _*_, _<_, _≤_, min}
 use native.Mathlib.Omega.{arith}
 use lib.Dec.{ltb}
 use lib.ListN.{length, take}
-use lib.Seq.{take-take}
 use Rattle.mode.specs.Rule.{after, outs}
 use Rattle.mode.proofs.Cases.{picked}
 use Rattle.bits.specs.Bits.{bitsOf, part, laid, wrote}
 use Rattle.bits.proofs.Lists.{Small}
-use Rattle.bits.proofs.Parts.{small-part, length-part}
+use Rattle.bits.proofs.Parts.{small-part, length-part, take-part}
 use Rattle.bits.proofs.Laid.{wrote-laid}
 use Rattle.aes.specs.Cipher.{aes128}
 use Rattle.counter.specs.declared.Position.{Position}
-use Rattle.counter.specs.Counter.{advanced}
+use Rattle.counter.proofs.Laws.{advanced-cases}
 use Rattle.line.specs.declared.record.Line.{Line}
 use Rattle.line.specs.declared.search.Finding.{Finding}
 use Rattle.line.specs.declared.cover.Covered.{Covered}
@@ -29,9 +28,8 @@ use Rattle.line.proofs.Stretching.{scan-least, scan-within, scan-line, 
 -- ---- the block
 
 moved-counter : (p : Position) (n : ℕ) → (movedOn p n .place ≡ 0 → ⊥) → movedOn p n .counter ≡ p .counter
-unfolding advanced
 moved-counter p n =
-    picked (λ (q : Position). (q .place ≡ 0 → ⊥) → q .counter ≡ p .counter) (ltb (p .place + (n - 1)) 127) _ _ (λ e h. refl) (λ e h. absurd (h refl))
+    advanced-cases (λ (q : Position). (q .place ≡ 0 → ⊥) → q .counter ≡ p .counter) (record { counter = p .counter; place = p .place + (n - 1) }) (λ lt h. refl) (λ ge h. absurd (h refl))
 
 abbrev Kept : Line → Line → Type 0
 Kept s t = (t .position .place ≡ 0 → ⊥) → aes128 (s .key) (s .position .counter) ≡ aes128 (t .key) (t .position .counter)
@@ -90,10 +88,9 @@ module _ (s d : List ℕ) (i n : ℕ) (g : Going) (ready : Ready g) (room : Room
 
     pub scan-stretched : (r : Going) → r .block ≡ aes128 (r .line .key) (r .line .position .counter) → (e : List ℕ) → g .line .left ≡ 0 → (f : Finding) → Found (c .carried) m (g .line .window) (g .line .seen) (g .line .pattern) f
         → r .line ≡ scannedTo (g .line) f → e ≡ wrote d i (c .out) (f .count) → Stretched s d i n g (record { going = r; done = f .count }) e
-    unfolding part
     scan-stretched r block e z f found l w =
         let within : f .count ≤ m = scan-within (g .line) (ready .good) m some in-block (part s i m) many c covered z f found in
-        let first : take (f .count) (part s i m) ≡ part s i (f .count) = take-take (f .count) m _ within in
+        let first : take (f .count) (part s i m) ≡ part s i (f .count) = take-part s i m (f .count) within in
         stretched r block e (f .count) (scan-least (g .line) (ready .good) m some in-block (part s i m) many c covered z f found) (omega arith)
         (l ∙ scan-line (g .line) (ready .good) m some in-block (part s i m) many c covered z f found
         ∙ ap (λ (b : List ℕ). holding (g .line) (after (ruleOf (g .line)) (view (g .line)) b)) first)

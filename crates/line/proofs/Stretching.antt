@@ -1,7 +1,7 @@
 -- A stretch in the record's numbers is the mode's: within a block the keystream is the block from the place on, the scanner stops where the mode finds
 -- the pattern, and what a blackout collects is packed behind what was collected before.
-use mathlib.Core.Path.{_≡_, refl, sym, ap, subst, _∙_}
-use mathlib.Core.Bool.{Bool, true, false, not, cond}
+use mathlib.Core.Path.{_≡_, sym, ap, subst, _∙_}
+use mathlib.Core.Bool.{Bool, false, not, cond}
 use mathlib.Core.List.{List, [], _∷_, _++_}
 use Prim.Native.Nat.{ℕ, zero, suc, _+_, _-_, _*_, _/_, _%_, _^_, _<_, _≤_, min}
 use native.Mathlib.Decide.{decLt}
@@ -11,51 +11,32 @@ use lib.ListN.{length, take, drop, replicate, length-take, length-append}
 use lib.Seq.{take-take, take-append-add, take-nil}
 use borrow.Author.Tests.{lt-ltb, le-ltb, ltb-true, ltb-false}
 use Rattle.mode.specs.Rule.{after, outs}
-use Rattle.mode.specs.Mode.{Generator, Settings, State, same, last}
+use Rattle.mode.specs.Mode.{Generator, Settings, State}
 use Rattle.mode.specs.Blocks.{Position, blocks}
 use Rattle.mode.specs.Words.{stream, nexts, plus}
-use Rattle.mode.specs.Scan.{Scan, more, scan}
+use Rattle.mode.specs.Scan.{Scan, scan}
 use Rattle.mode.proofs.Cases.{picked}
 use Rattle.mode.proofs.Streams.{carried, length-carried}
 use Rattle.mode.proofs.Stretches.{looking, scanned, dark, scan-after, scan-outs, dark-after, dark-over, dark-outs}
+use Rattle.mode.proofs.Scans.{scan-some, scan-most}
 use Rattle.mode.proofs.Blocks.{nexts-within, nexts-over, stream-within}
-use Rattle.bits.specs.Bits.{bitsOf, pack, digits, numberOn, number, part, laid, wrote}
+use Rattle.bits.specs.Bits.{bitsOf, pack, digits, number, part, laid, wrote}
 use Rattle.bits.proofs.Lists.{small-take}
-use Rattle.bits.proofs.Digits.{length-digits, number-digits}
-use Rattle.bits.proofs.Packed.{length-bits, length-pack, small-bits}
+use Rattle.bits.proofs.Digits.{no-digits, length-digits, number-none, number-digits}
+use Rattle.bits.proofs.Packed.{length-bits, length-pack, pack-none, small-bits}
+use Rattle.bits.proofs.Parts.{part-is}
 use Rattle.bits.proofs.Laid.{laid-pack, wrote-laid}
 use Rattle.aes.specs.Cipher.{aes128}
 use Rattle.aes.proofs.Schedule.{aes-length}
 use Rattle.counter.specs.declared.Position.{Position as Kept}
-use Rattle.counter.specs.Counter.{steppedBytes, advanced}
+use Rattle.counter.specs.Counter.{steppedBytes}
+use Rattle.counter.proofs.Laws.{advanced-in-block, advanced-at-end}
 use Rattle.line.specs.declared.record.Line.{Line}
 use Rattle.line.specs.declared.search.Finding.{Finding}
 use Rattle.line.specs.declared.cover.Covered.{Covered}
 use Rattle.line.specs.View.{box, aes, settings, ruleOf, view, holding}
 use Rattle.line.specs.Tests.{dueIn, mostIn}
 use Rattle.line.specs.Inner.{Good, within, Found, Covers, movedOn, scannedTo, darkenedBy}
-
--- ---- the scanner takes at least one bit, and no more than there are
-
-module _ (p w : List ℕ) (v : ℕ) (vs : List ℕ) where
-  abbrev hit : Scan
-  hit = record { count = 1; window = []; found = true }
-
-  abbrev miss : Scan
-  miss = more (scan p (last (length p - 1) (w ++ (v ∷ []))) vs)
-
-  scan-some : 0 < scan p w (v ∷ vs) .count
-  unfolding scan
-  scan-some = picked (λ (r : Scan). 0 < r .count) (same (w ++ (v ∷ [])) p) hit miss (λ _. omega arith) (λ _. omega arith)
-
-  scan-one-more : scan p (last (length p - 1) (w ++ (v ∷ []))) vs .count ≤ length vs → scan p w (v ∷ vs) .count ≤ suc (length vs)
-  unfolding scan
-  scan-one-more h = picked (λ (r : Scan). r .count ≤ suc (length vs)) (same (w ++ (v ∷ [])) p) hit miss (λ _. omega arith) (λ _. omega (arith, h))
-
-scan-most : (p w vs : List ℕ) → scan p w vs .count ≤ length vs
-unfolding scan
-scan-most p w [] = omega arith
-scan-most p w (v ∷ vs) = scan-one-more p w v vs (scan-most p (last (length p - 1) (w ++ (v ∷ []))) vs)
 
 -- ---- the first bits of the first bits
 
@@ -82,23 +63,25 @@ module _ (s : Line) (g : Good s) where
   block-bits c = length-bits (aes128 (s .key) c) ∙ ap (λ (k : ℕ). 8 * k) (aes-length (s .key) c)
 
   keys-are : (m : ℕ) → s .position .place + m ≤ 128 → part (aes128 (s .key) (s .position .counter)) (s .position .place) m ≡ stream G at m
-  unfolding part
-  keys-are m h = sym (stream-within 128 (λ c. bitsOf (aes128 (s .key) c)) steppedBytes (pack 16) block-bits m (s .position .counter) (s .position .place) (g .place-in) h)
+  keys-are m h =
+      part-is (aes128 (s .key) (s .position .counter)) (s .position .place) m
+      ∙ sym (stream-within 128 (λ c. bitsOf (aes128 (s .key) c)) steppedBytes (pack 16) block-bits m (s .position .counter) (s .position .place) (g .place-in) h)
 
   pub moved-is : (n : ℕ) → 0 < n → s .position .place + n ≤ 128
       → record { counter = nexts G at n .counter; place = nexts G at n .place } ≡ movedOn (s .position) n
-  unfolding advanced
   moved-is n h k =
       let c : List ℕ = s .position .counter in
       let p : ℕ = s .position .place in
+      let before : Kept = record { counter = c; place = p + (n - 1) } in
       elim (decLt (p + n) 128) [
         | yes lt ↦
             let e : p + n ≡ p + (n - 1) + 1 = omega arith in
             ap (λ (q : Position (List ℕ)). record { counter = q .counter; place = q .place }) (nexts-within 128 (λ x. bitsOf (aes128 (s .key) x)) steppedBytes (pack 16) n c p lt)
-            ∙ rw (lt-ltb (p + (n - 1)) 127 (omega arith)) (λ i. record { counter = c; place = e i })
+            ∙ (λ i. record { counter = c; place = e i })
+            ∙ sym (advanced-in-block before (omega arith))
         | no ge ↦
             ap (λ (q : Position (List ℕ)). record { counter = q .counter; place = q .place }) (nexts-over 128 (λ x. bitsOf (aes128 (s .key) x)) steppedBytes (pack 16) n c p h (omega arith))
-            ∙ rw (le-ltb (p + (n - 1)) 127 (omega arith)) refl
+            ∙ sym (advanced-at-end before (omega arith))
       ]
 
   module _ (m : ℕ) (some : 0 < m) (in-block : s .position .place + m ≤ 128) (a : List ℕ) (many : length a ≡ m) (r : Covered)
@@ -150,7 +133,6 @@ module _ (s : Line) (g : Good s) where
           ∙ scan-after G S at (digits (s .seen) (s .window)) a
 
       pub scan-line : scannedTo s f ≡ holding s (after (ruleOf s) (view s) (take (f .count) a))
-      unfolding pack numberOn
       scan-line =
           let window-is : digits (f .seen) (f .window) ≡ R .window = found .left ∙ ap (λ (t : Scan). t .window) there in
           let w : f .window ≡ number (R .window) = sym (number-digits (f .seen) (f .window) (found .small)) ∙ ap number window-is in
@@ -203,9 +185,8 @@ module _ (s : Line) (g : Good s) where
           simp (length-take, length-bits) (omega (arith, due))
 
       darkens : view s ≡ dark G S at (s .left) C
-      unfolding digits
       darkens =
-          let w : digits (s .seen) (s .window) ≡ [] = rw unseen in
+          let w : digits (s .seen) (s .window) ≡ [] = ap (λ (n : ℕ). digits n (s .window)) unseen ∙ no-digits (s .window) in
           λ i. record { generator = at; window = w i; left = s .left; collected = C }
 
       -- what is collected with the stretch's line bits
@@ -234,11 +215,10 @@ module _ (s : Line) (g : Good s) where
           ∙ laid-pack 16 C (take k (bitsOf (r .carried))) (small-take (s .collected) (bitsOf (s .iv)) (small-bits (s .iv))) (omega (arith, length-C, due, b))
           ∙ ap (pack 16) (sym gathered-is)
 
-      no-window : s .window ≡ 0
-      no-window = let h : s .window < 2 ^ 0 = subst (λ (n : ℕ). s .window < 2 ^ n) unseen (g .window-in) in omega arith
+      no-window : s .window ≡ number []
+      no-window = let h : s .window < 2 ^ 0 = subst (λ (n : ℕ). s .window < 2 ^ n) unseen (g .window-in) in omega (arith, number-none)
 
       pub dark-line : darkenedBy s (r .carried) m ≡ holding s (after (ruleOf s) (view s) a)
-      unfolding pack numberOn
       dark-line =
           let from-view : after (ruleOf s) (dark G S at (s .left) C) a ≡ after (ruleOf s) (view s) a = ap (λ (t : State (Position (List ℕ))). after (ruleOf s) t a) (sym darkens) in
           picked (λ (t : Line). t ≡ holding s (after (ruleOf s) (view s) a)) (ltb m (s .left)) _ _
@@ -271,7 +251,7 @@ module _ (s : Line) (g : Good s) where
             window = no-window i;
             seen = unseen i;
             left = 0;
-            iv = pack 16 [];
+            iv = sym (pack-none 16) i;
             collected = 0;
           })
           ∙ ap (holding s) (sym (dark-over G S a at (s .left) C over d) ∙ from-view))

@@ -1,14 +1,17 @@
 -- The exclusive or of bytes is, bit by bit, the sum modulo 2.
 use mathlib.Core.Path.{_≡_, refl, sym, ap, _∙_}
 use mathlib.Core.List.{List, [], _∷_, _++_}
-use Prim.Native.Nat.{ℕ, zero, suc, _+_, _*_, _/_, _%_, _^_, _<_, _≤_}
+use Prim.Native.Nat.{ℕ, zero, suc, _+_, _*_, _/_, _%_, _<_, _≤_}
 use native.Mathlib.Omega.{arith}
 use native.Mathlib.Numerals.{add-one}
 use lib.Bits.{bitXor, differ, xor-step, xor-shr}
 use lib.ListN.{length, getD, take, drop, set, length-set}
 use lib.Seq.{take-suc, take-suc-set, drop-set-lt, drop-cons, take-all, getD-drop}
 use Rattle.mode.specs.Words.{plus}
-use Rattle.bits.specs.Bits.{bitsOf}
+use Rattle.mode.proofs.Streams.{plus-none, plus-one, plus-append}
+use Rattle.bits.specs.Bits.{bitsOf, digits}
+use Rattle.bits.proofs.Digits.{no-digits, digits-more, length-digits}
+use Rattle.bits.proofs.Packed.{no-bits, bits-byte}
 
 -- ---- one bit, and one byte
 
@@ -24,20 +27,30 @@ differ-is (suc (suc x)) y hx hy = absurd (omega arith)
 one-bit : (a b : ℕ) → bitXor a b % 2 ≡ (a % 2 + b % 2) % 2
 one-bit a b = let d : differ (a % 2) (b % 2) ≡ (a % 2 + b % 2) % 2 = differ-is (a % 2) (b % 2) (omega arith) (omega arith) in omega (arith, xor-step a b)
 
-bit : (a b k : ℕ) → bitXor a b / 2 ^ k % 2 ≡ (a / 2 ^ k % 2 + b / 2 ^ k % 2) % 2
-bit a b k = ap (λ (z : ℕ). z % 2) (xor-shr a b k) ∙ one-bit (a / 2 ^ k) (b / 2 ^ k)
-
 abbrev pub xors : List ℕ → List ℕ → List ℕ
 xors [] b = []
 xors (x ∷ a) [] = []
 xors (x ∷ a) (y ∷ b) = bitXor x y ∷ xors a b
 
+digits-xor : (n x y : ℕ) → digits n (bitXor x y) ≡ plus (digits n x) (digits n y)
+digits-xor zero x y = no-digits (bitXor x y) ∙ sym (ap (λ (l : List ℕ). plus l (digits 0 y)) (no-digits x) ∙ plus-none (digits 0 y))
+digits-xor (suc n) x y =
+    digits-more n (bitXor x y)
+    ∙ (λ i. (ap (digits n) (xor-shr x y 1) ∙ digits-xor n (x / 2) (y / 2)) i ++ (one-bit x y i ∷ []))
+    ∙ sym
+    ((λ i. plus (digits-more n x i) (digits-more n y i))
+    ∙ plus-append (digits n (x / 2)) (digits n (y / 2)) (x % 2 ∷ []) (y % 2 ∷ []) (length-digits n (x / 2) ∙ sym (length-digits n (y / 2)))
+    ∙ ap (λ (l : List ℕ). plus (digits n (x / 2)) (digits n (y / 2)) ++ l) (plus-one (x % 2) (y % 2)))
+
 bits-xors : (a b : List ℕ) → length a ≡ length b → bitsOf (xors a b) ≡ plus (bitsOf a) (bitsOf b)
-unfolding bitsOf plus
-bits-xors [] b e = refl
+bits-xors [] b e = no-bits ∙ sym (ap (λ (l : List ℕ). plus l (bitsOf b)) no-bits ∙ plus-none (bitsOf b))
 bits-xors (x ∷ a) [] e = absurd (omega arith)
 bits-xors (x ∷ a) (y ∷ b) e =
-    λ i. bit x y 7 i ∷ bit x y 6 i ∷ bit x y 5 i ∷ bit x y 4 i ∷ bit x y 3 i ∷ bit x y 2 i ∷ bit x y 1 i ∷ one-bit x y i ∷ bits-xors a b (omega arith) i
+    bits-byte (bitXor x y) (xors a b)
+    ∙ (λ i. digits-xor 8 x y i ++ bits-xors a b (omega arith) i)
+    ∙ sym
+    ((λ i. plus (bits-byte x a i) (bits-byte y b i))
+    ∙ plus-append (digits 8 x) (digits 8 y) (bitsOf a) (bitsOf b) (length-digits 8 x ∙ sym (length-digits 8 y)))
 
 -- ---- the loop
 

@@ -12,6 +12,7 @@ use borrow.Author.Tests.{eq-eqb, ne-eqb}
 use Rattle.mode.specs.Mode.{same, last}
 use Rattle.mode.specs.Scan.{Scan, more, scan}
 use Rattle.mode.proofs.Cases.{same-refl, same-false}
+use Rattle.mode.proofs.Scans.{scan-ends, scan-goes-on}
 use Rattle.bits.specs.Bits.{digits}
 use Rattle.bits.proofs.Digits.{length-digits, digits-push, digits-drop, digits-mod, digits-same}
 
@@ -49,15 +50,14 @@ module _ (n p : ℕ) where
 
   pub scan-few : (c w v : ℕ) (vs : List ℕ) → c < n → v < 2
       → scan (digits (suc n) p) (digits c w) (v ∷ vs) ≡ more (scan (digits (suc n) p) (digits (suc c) (w * 2 + v)) vs)
-  unfolding scan
-  scan-few c w v vs h hv = rw (few-differ c w v h, few-moves c w v h hv)
+  scan-few c w v vs h hv =
+      scan-goes-on (digits (suc n) p) (digits c w) v vs (few-differ c w v h) ∙ ap (λ (l : List ℕ). more (scan (digits (suc n) p) l vs)) (few-moves c w v h hv)
 
   pub scan-hit : (w v : ℕ) (vs : List ℕ) → w < 2 ^ n → v < 2 → w * 2 + v < 2 ^ suc n → p < 2 ^ suc n → w * 2 + v ≡ p
       → scan (digits (suc n) p) (digits n w) (v ∷ vs) ≡ record { count = 1; window = []; found = true }
-  unfolding scan
-  scan-hit w v vs hw hv hx hp e = rw (full-same w v hw hv hx hp e)
+  scan-hit w v vs hw hv hx hp e = scan-ends (digits (suc n) p) (digits n w) v vs (full-same w v hw hv hx hp e)
 
   pub scan-miss : (w v : ℕ) (vs : List ℕ) → v < 2 → w * 2 + v < 2 ^ suc n → p < 2 ^ suc n → (w * 2 + v ≡ p → ⊥)
       → scan (digits (suc n) p) (digits n w) (v ∷ vs) ≡ more (scan (digits (suc n) p) (digits n ((w * 2 + v) % 2 ^ n)) vs)
-  unfolding scan
-  scan-miss w v vs hv hx hp d = rw (full-differ w v hv hx hp d, full-moves w v hv)
+  scan-miss w v vs hv hx hp d =
+      scan-goes-on (digits (suc n) p) (digits n w) v vs (full-differ w v hv hx hp d) ∙ ap (λ (l : List ℕ). more (scan (digits (suc n) p) l vs)) (full-moves w v hv)
