@@ -2,45 +2,19 @@
 use mathlib.Core.Path.{_≡_, refl, sym, ap, subst, _∙_}
 use mathlib.Core.List.{List, [], _∷_, _++_, append-assoc}
 use Prim.Native.Nat.{ℕ, _+_, _-_, _*_, _/_, _%_, _≤_, _<_}
-use native.Mathlib.Decide.{decLt}
 use native.Mathlib.Omega.{arith}
-use lib.ListN.{length, getD, take, drop, length-append, length-take, length-drop, take-append-drop, List·getD-eq-default}
-use lib.Seq.{take-take, getD-drop, drop-drop, drop-at, length-take-le}
+use lib.ListN.{length, getD, take, drop, length-append, length-take, length-drop, take-append-drop}
+use lib.Seq.{drop-drop, drop-at, length-take-le}
 use Rattle.bits.specs.Bits.{bitsOf, pack, part, laid, wrote}
-use Rattle.bits.proofs.Lists.{Small, Bytes, Alike, alike-append, small-take, drop-take, bytes-drop}
-use Rattle.bits.proofs.Packed.{length-bits, small-bits, length-pack, bits-pack, bits-pack-at, bits-drop, pack-append, pack-alike, pack-front, pack-bits}
-use Rattle.bits.proofs.Parts.{small-part, length-part}
+use Rattle.bits.proofs.Lists.{Small, Bytes, small-take, bytes-drop}
+use Rattle.bits.proofs.Packed.{length-bits, small-bits, length-pack, bits-drop, pack-append, pack-front, pack-bits, pack-past}
+use Rattle.bits.proofs.Parts.{part-is, small-part, length-part, part-start, part-drop}
+-- handed on: what is read out of a queue is asked for here
+pub use Rattle.bits.proofs.Parts.{part-pack}
 use Rattle.bits.proofs.Laid.{laid-is, laid-laid, laid-pack, length-laid, wrote-laid, wrote-pack}
-
--- ---- bytes made of bits
-
-pub part-pack : (n : ℕ) (x : List ℕ) (i m : ℕ) → Small x → length x ≤ 8 * n → i + m ≤ length x → part (pack n x) i m ≡ take m (drop i x)
-unfolding part
-part-pack n x i m h le fit =
-    sym (drop-take i m (bitsOf (pack n x)))
-    ∙ ap (drop i) (sym (take-take (i + m) (length x) (bitsOf (pack n x)) fit) ∙ ap (take (i + m)) (bits-pack n x h le))
-    ∙ drop-take i m x
-
-alike-bits : (n : ℕ) (x : List ℕ) → Small x → length x ≤ 8 * n → Alike (bitsOf (pack n x)) x
-alike-bits n x h le i =
-    elim (decLt i (8 * n)) [
-      | yes lt ↦ bits-pack-at n x i h lt
-      | no ge ↦ List·getD-eq-default (bitsOf (pack n x)) 0 {n = i} (omega (arith, length-bits (pack n x), length-pack n x)) ∙ sym (List·getD-eq-default x 0 {n = i} (omega arith))
-    ]
-
--- behind other bits, the bits from j on and the zeros after them are packed as the bits from j on
-pub pack-past : (n : ℕ) (p x : List ℕ) (j : ℕ) → Small x → length x ≤ 8 * n → pack n (p ++ drop j (bitsOf (pack n x))) ≡ pack n (p ++ drop j x)
-pack-past n p x j h le =
-    pack-alike n (p ++ drop j (bitsOf (pack n x))) (p ++ drop j x)
-    (alike-append p (drop j (bitsOf (pack n x))) (drop j x) (λ i. getD-drop j (bitsOf (pack n x)) i 0 ∙ alike-bits n x h le (j + i) ∙ sym (getD-drop j x i 0)))
 
 pub length-packed : (q x : List ℕ) → q ≡ pack 60 x → length q ≡ 60
 length-packed q x e = ap length e ∙ length-pack 60 x
-
--- the part from r on of a part from 0 on
-pub part-drop : (q : List ℕ) (r n : ℕ) → drop r (part q 0 (r + n)) ≡ part q r n
-unfolding part
-part-drop q r n = drop-take r n (bitsOf q)
 
 -- ---- bits leave and join
 
@@ -68,11 +42,10 @@ joined-is q input b t e r n d is fit room few more drawn read wrote-is =
 pub replaced-is : (q b kept t e : List ℕ) (at n end rest : ℕ) → length q ≡ 60 → Bytes q → length b ≡ 16 → n ≤ 128 → end ≡ at + n → end ≤ 480 → rest ≡ (8 - end % 8) % 8
     → kept ≡ pack 16 (part q end rest) → t ≡ wrote q at b n → e ≡ wrote t end kept rest
     → e ≡ pack 60 (part q 0 at ++ (take n (bitsOf b) ++ drop end (bitsOf q)))
-unfolding part
 replaced-is q b kept t e at n end rest lq hq lb few ee le er read first second =
     let B : List ℕ = bitsOf q in
     let O : List ℕ = take n (bitsOf b) in
-    let T : List ℕ = take rest (drop end B) in
+    let T : List ℕ = part q end rest in
     let N : ℕ = (end + rest) / 8 in
     let X : List ℕ = take at B ++ (O ++ T) in
     let whole : end + rest ≡ 8 * N = omega arith in
@@ -93,8 +66,8 @@ replaced-is q b kept t e at n end rest lq hq lb few ee le er read first second =
     ∙ wrote-pack t end T rest (small-part q end rest) (sym lT) (omega arith) (omega arith)
     ∙ (λ i. laid (one i) (at-end i) T)
     ∙ laid-laid q at O T smallO (omega arith) in
-    let behind : drop end B ≡ T ++ drop rest (drop end B) = sym (take-append-drop rest (drop end B)) in
     let D : List ℕ = drop rest (drop end B) in
+    let behind : drop end B ≡ T ++ D = sym (ap (λ (l : List ℕ). l ++ D) (part-is q end rest) ∙ take-append-drop rest (drop end B)) in
     let regroup : take at B ++ (O ++ drop end B) ≡ X ++ D =
     ap (λ (l : List ℕ). take at B ++ (O ++ l)) behind ∙ ap (λ (l : List ℕ). take at B ++ l) (sym (append-assoc O T D)) ∙ sym (append-assoc (take at B) (O ++ T) D) in
     let tail : D ≡ bitsOf (drop N q) = drop-drop rest end B ∙ ap (λ (k : ℕ). drop k B) whole ∙ bits-drop N q in
@@ -106,4 +79,4 @@ replaced-is q b kept t e at n end rest lq hq lb few ee le er read first second =
     ∙ laid-is q at (O ++ T) N (omega (arith, lOT))
     ∙ (λ i. sym (pack-front N X D (omega (arith, lX))) i ++ sym later i)
     ∙ sym (pack-append 60 N (60 - N) (X ++ D) (omega arith))
-    ∙ ap (pack 60) (sym regroup)
+    ∙ ap (pack 60) (sym regroup ∙ ap (λ (l : List ℕ). l ++ (O ++ drop end B)) (sym (part-start q at)))

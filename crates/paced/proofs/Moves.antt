@@ -1,9 +1,9 @@
 -- A tick on the packed queue is the tick: the ready bits that stay, the waiting bits and the input stand one after the other in the queue, and the bits that pass
 -- are the first of the last two.
-use mathlib.Core.Path.{_≡_, refl, sym, ap, subst, _∙_}
+use mathlib.Core.Path.{_≡_, sym, ap, subst, _∙_}
 use mathlib.Core.Logic.{_⊎_, ⊎-elim}
-use mathlib.Core.List.{List, [], _∷_, _++_, append-assoc}
-use Prim.Native.Nat.{ℕ, zero, suc, _+_, _-_, _*_, _≤_, _<_}
+use mathlib.Core.List.{List, _++_, append-assoc}
+use Prim.Native.Nat.{ℕ, _+_, _-_, _*_, _≤_, _<_}
 use native.Mathlib.Omega.{arith}
 use lib.ListN.{length, take, drop, length-append, length-take, length-drop}
 use lib.Seq.{take-at, drop-at, drop-drop, length-take-le}
@@ -13,7 +13,8 @@ use Rattle.mode.specs.Blocks.{Position}
 use Rattle.mode.proofs.Runs.{length-outs}
 use Rattle.bits.specs.Bits.{bitsOf, pack, part}
 use Rattle.bits.proofs.Lists.{Small, small-append}
-use Rattle.bits.proofs.Parts.{small-part, length-part, part-split}
+use Rattle.bits.proofs.Packed.{pack-past}
+use Rattle.bits.proofs.Parts.{small-part, length-part, take-part, part-drop, part-split, part-pack}
 use Rattle.pace.specs.Tick.{Held, hold, width, moves, leaving, written, moving, passing, ticked}
 use Rattle.pace.proofs.Moves.{moves-what-waits, moves-cases}
 use Rattle.line.specs.declared.record.Line.{Line}
@@ -25,7 +26,6 @@ use Rattle.paced.specs.declared.ticking.Move.{Move}
 use Rattle.paced.specs.View.{viewed, keeping}
 use Rattle.paced.specs.Ticking.{leavingFrom, heldAfter}
 use Rattle.paced.specs.Inner.{Open, Passes, tickedTo}
-use Rattle.paced.proofs.Joining.{part-pack, pack-past, part-drop}
 use Rattle.paced.proofs.Records.{few-d, length-queue, leaving-in, counts-in, held-in}
 
 -- a move takes no more than there is
@@ -67,15 +67,7 @@ module _ (p : Paced) (o : Open p) where
 
   -- the bits that leave are the queue's first
   pub leaving-bits : leavingFrom p ≡ part (p .queue) 0 (p .d - p .fillers)
-  unfolding part
-  leaving-bits =
-      take-front (p .d - p .fillers) (p .ready) (bitsOf (p .queue)) (leaving-in p o)
-    where
-      take-front : (a b : ℕ) (l : List ℕ) → a ≤ b → take a (take b l) ≡ take a l
-      take-front zero b l h = refl
-      take-front (suc a) zero l h = absurd (omega arith)
-      take-front (suc a) (suc b) [] h = refl
-      take-front (suc a) (suc b) (x ∷ l) h = ap (λ (t : List ℕ). x ∷ t) (take-front a b l (omega arith))
+  leaving-bits = take-part (p .queue) 0 (p .ready) (p .d - p .fillers) (leaving-in p o)
 
   pub length-leaving : length (leavingFrom p) ≡ p .d - p .fillers
   length-leaving = length-take-le (p .d - p .fillers) readyBits (omega (arith, leaving-in p o, length-ready-bits))
