@@ -2,24 +2,17 @@
 use mathlib.Core.Path.{_≡_, refl, sym, ap, subst, _∙_}
 use mathlib.Core.Bool.{Bool, true, false, cond}
 use mathlib.Core.List.{List, [], _∷_, _++_}
-use Prim.Native.Nat.{ℕ, zero, suc, _+_, _-_, _*_, _<_, _≤_, min}
+use Prim.Native.Nat.{ℕ, suc, _+_, _-_, _*_, _<_, _≤_, min}
 use native.Mathlib.Decide.{ℕ-discrete, decLt}
 use native.Mathlib.Omega.{arith}
 use lib.ListN.{length, length-append, length-drop}
-use Rattle.mode.specs.Mode.{Generator, Settings, State, stage, last, seen, found, gathered, step, opened}
-use Rattle.mode.specs.Ends.{ended, ends, patternEnds, silent}
+use Rattle.mode.specs.Mode.{Generator, Settings, State, last, seen, found, gathered, step, opened}
+use Rattle.mode.specs.Ends.{ends, patternEnds, silent}
 use Rattle.mode.proofs.Cases.{same-true}
+use Rattle.mode.proofs.Ends.{ended-scan, ended-dark, ends-none, ends-here, ends-later}
 use Rattle.mode.proofs.Steps.{step-looks, step-found, step-last, step-dark}
 
 module _ (G : Generator) (S : Settings) (eight : length (S .pattern) ≡ 8) (long : 128 ≤ S .lasts) where
-  ended-scan : (s : State (G .State)) (v : ℕ) → s .left ≡ 0 → ended G S s v ≡ found G S s v
-  ended-scan s v z = ap (λ (l : ℕ). stage l (found G S s v) false false) z
-
-  ended-dark : (l : ℕ) (f : Bool) → 0 < l → stage l f false false ≡ false
-  ended-dark zero f h = absurd (omega arith)
-  ended-dark (suc zero) f h = refl
-  ended-dark (suc (suc k)) f h = refl
-
   -- the ends in these bits, with those of a blackout bits left before them, against the bits, with those of the window before them
   abbrev Few : ℕ → State (G .State) → List ℕ → Type 0
   Few i s vs = 136 * length (ends G S i s vs) + min (s .left) 128 ≤ length vs + length (s .window) + 128
@@ -36,24 +29,20 @@ module _ (G : Generator) (S : Settings) (eight : length (S .pattern) ≡ 8) (lon
     windowed t e = ap (λ (u : State (G .State)). length (u .window)) e
 
     scans : (f : Bool) → found G S s v ≡ f → s .left ≡ 0 → Few i s (v ∷ vs)
-    unfolding ends
     scans true e z =
         let full : length (seen G S s v) ≡ 8 = ap length (same-true (seen G S s v) (S .pattern) e) ∙ eight in
         let w = windowed _ (step-found G S s v z e) in
         let l : next .left ≡ S .lasts = ap (λ (u : State (G .State)). u .left) (step-found G S s v z e) in
-        let q : ended G S s v ≡ true = ended-scan s v z ∙ e in
-        rw q (omega (arith, z, one-long, full, long, w, l, rest next (omega (arith, w))))
+        rw (ends-here G S i s v vs (ended-scan G S s v z ∙ e)) (omega (arith, z, one-long, full, long, w, l, rest next (omega (arith, w))))
     scans false e z =
         let w = windowed _ (step-looks G S s v z e) in
         let k : length (last (length (S .pattern) - 1) (seen G S s v)) ≡ length (seen G S s v) - (length (seen G S s v) - (length (S .pattern) - 1)) =
         length-drop (length (seen G S s v) - (length (S .pattern) - 1)) (seen G S s v) in
-        let q : ended G S s v ≡ false = ended-scan s v z ∙ e in
-        rw q (omega (arith, z, one-long, eight, w, k, rest next (omega (arith, w, k, eight))))
+        rw (ends-later G S i s v vs (ended-scan G S s v z ∙ e)) (omega (arith, z, one-long, eight, w, k, rest next (omega (arith, w, k, eight))))
 
     dark : 0 < s .left → Few i s (v ∷ vs)
-    unfolding ends
     dark z =
-        let e : ended G S s v ≡ false = ended-dark (s .left) (found G S s v) z in
+        let e : ends G S i s (v ∷ vs) ≡ ends G S (suc i) next vs = ends-later G S i s v vs (ended-dark G S s v z) in
         elim (ℕ-discrete (s .left) 1) [
           | yes o ↦ (let w = windowed _ (step-last G S s v o) in rw e (omega (arith, o, w, rest next (omega (arith, w)))))
           | no o ↦ (
@@ -69,8 +58,7 @@ module _ (G : Generator) (S : Settings) (eight : length (S .pattern) ≡ 8) (lon
     ]
 
   pub few-ends : (vs : List ℕ) (i : ℕ) (s : State (G .State)) → length (s .window) ≤ 7 → Few i s vs
-  unfolding ends
-  few-ends [] i s h = omega arith
+  few-ends [] i s h = rw (ends-none G S i s) (omega arith)
   few-ends (v ∷ vs) i s h = turn v vs i s h (few-ends vs (suc i))
 
 -- from an opening on

@@ -1,5 +1,5 @@
 -- A free line opened with settings that pass runs the bits of a file: neither the opening nor the run is refused.
-use mathlib.Core.Path.{_≡_, refl, sym, ap, _∙_}
+use mathlib.Core.Path.{_≡_, refl, ap, _∙_}
 use mathlib.Core.Bool.{Bool, true, false}
 use mathlib.Core.List.{List, []}
 use Prim.Native.Nat.{ℕ, _+_, _-_, _*_, _/_, _<_, _≤_}
@@ -8,7 +8,7 @@ use lib.ListN.{length, take, drop, length-drop}
 use lib.Seq.{take-all}
 use Rattle.mode.specs.Rule.{outs}
 use Rattle.bits.specs.Bits.{part, laid}
-use Rattle.bits.proofs.Packed.{bits-drop}
+use Rattle.bits.proofs.Parts.{part-from}
 use Rattle.refusal.specs.declared.Answer.{Answer}
 use Rattle.refusal.specs.Numbers.{outcome}
 use Rattle.line.specs.declared.record.Line.{Line}
@@ -21,10 +21,6 @@ use Rattle.line.proofs.Records.{passes}
 use Rattle.paced.proofs.Starts.{good-fresh}
 use Rattle.linefile.specs.declared.reader.Settings.{Settings}
 use Rattle.linefile.specs.Run.{lineOf}
-
-pub part-from : (s : List ℕ) (start n : ℕ) → part (drop start s) 0 n ≡ part s (8 * start) n
-unfolding part
-part-from s start n = ap (take n) (sym (bits-drop start s))
 
 -- the run of a file's bits from byte `start` on
 pub freely : (c : Settings) (s d e : List ℕ) (start n : ℕ) (o : Reply) → length (c .key) ≡ 16 → length (c .iv) ≡ 16 → c .pattern < 256 → 1 ≤ c .l → c .l ≤ 11

@@ -1,6 +1,5 @@
 pub mod Tests
 pub mod Areas
-pub mod Sixteen
 pub mod Looking
 pub mod Listing
 pub mod Freely

@@ -14,13 +14,14 @@ use Rattle.refusal.specs.declared.Answer.{Answer}
 use Rattle.bits.specs.Bits.{pack, part}
 use Rattle.bits.proofs.Lists.{Small, zeros}
 use Rattle.bits.proofs.Packed.{length-pack}
+use Rattle.bits.proofs.Parts.{packed-part}
 use Rattle.linefile.specs.declared.reader.Settings.{Settings}
 use Rattle.linefile.specs.declared.reader.Contents.{Contents}
 use Rattle.linefile.specs.File.{numberAt, statedLength, countOf, bitsAt, settingsAt, bytesFor, outside, overlapping, settingsOf, lOf, directionOf, dOf, ragged, malformed, blackoutRefused, rateRefused, readAnswer, contents, bitsOfFile}
 use Rattle.linefile.specs.Writer.{word, settingBytes, fileOf, Writable}
 use Rattle.linefile.proofs.Areas.{says}
 use Rattle.linefile.proofs.Tests.{nor, not-first, not-second}
-use Rattle.linefile.proofs.Stored.{stored-outside, stored-inside, taken, packed-part}
+use Rattle.linefile.proofs.Stored.{stored-outside, stored-inside, taken}
 
 word-is : (n : ℕ) → ((n / 16777216 * 256 + n / 65536 % 256) * 256 + n / 256 % 256) * 256 + n % 256 ≡ n
 word-is n = omega arith

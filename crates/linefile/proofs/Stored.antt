@@ -1,14 +1,11 @@
 -- Elements stored one after the other: where they lie they are read back, and everywhere else the list is as it was.
 use mathlib.Core.Path.{_≡_, refl, sym, ap, _∙_}
 use mathlib.Core.Logic.{_⊎_, inl, inr}
-use mathlib.Core.List.{List, [], _∷_, _++_}
-use Prim.Native.Nat.{ℕ, zero, suc, _+_, _*_, _<_, _≤_}
+use mathlib.Core.List.{List, [], _∷_}
+use Prim.Native.Nat.{ℕ, zero, suc, _+_, _<_, _≤_}
 use native.Mathlib.Omega.{arith}
-use lib.ListN.{length, getD, take, drop, set, length-set, length-take, length-drop, length-append, take-append-drop}
-use lib.Seq.{sets, length-sets, getD-set-same, getD-set-other, getD-take, getD-drop, ext-getD, take-append-le}
-use Rattle.bits.specs.Bits.{bitsOf, pack, part}
-use Rattle.bits.proofs.Lists.{Small}
-use Rattle.bits.proofs.Packed.{bits-drop, bits-append, bits-pack, length-bits, length-pack}
+use lib.ListN.{length, getD, take, drop, set, length-set, length-take, length-drop, length-append}
+use lib.Seq.{sets, length-sets, getD-set-same, getD-set-other, getD-take, getD-drop, ext-getD}
 
 pub stored-outside : (vs l : List ℕ) (i k : ℕ) → (k < i) ⊎ (i + length vs ≤ k) → getD (sets l i vs) k 0 ≡ getD l k 0
 stored-outside [] l i k h = refl
@@ -30,16 +27,3 @@ taken s k i hk hs same =
     let n : length (take 16 (drop i s)) ≡ 16 = simp (length-take, length-drop) (omega arith) in
     ext-getD 0 (take 16 (drop i s)) k (n ∙ sym hk)
     (λ j lt. getD-take 16 (drop i s) j 0 (omega (arith, n)) ∙ getD-drop i s j 0 ∙ same j (omega (arith, n)))
-
--- bits packed and stored from byte a on are the bits from there on
-pub packed-part : (s r : List ℕ) (a k : ℕ) → Small r → length r ≤ 8 * k → a + k ≤ length s → ((j : ℕ) → j < k → getD s (a + j) 0 ≡ getD (pack k r) j 0)
-    → part s (8 * a) (length r) ≡ r
-unfolding part
-packed-part s r a k hr room hs same =
-    let x : List ℕ = drop a s in
-    let n : length (take k x) ≡ k = simp (length-take, length-drop) (omega arith) in
-    let e : take k x ≡ pack k r =
-    ext-getD 0 (take k x) (pack k r) (n ∙ sym (length-pack k r)) (λ j lt. getD-take k x j 0 (omega (arith, n)) ∙ getD-drop a s j 0 ∙ same j (omega (arith, n))) in
-    ap (take (length r)) (bits-drop a s ∙ ap bitsOf (sym (take-append-drop k x)) ∙ bits-append (take k x) (drop k x) ∙ ap (λ (l : List ℕ). bitsOf l ++ bitsOf (drop k x)) e)
-    ∙ take-append-le (length r) (bitsOf (pack k r)) (bitsOf (drop k x)) (simp (length-bits, length-pack) room)
-    ∙ bits-pack k r hr room
