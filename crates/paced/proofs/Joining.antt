@@ -9,7 +9,7 @@ use Rattle.bits.specs.Bits.{bitsOf, pack, part, laid, wrote}
 use Rattle.bits.proofs.Lists.{Small, Bytes, small-take, bytes-drop}
 use Rattle.bits.proofs.Packed.{length-bits, small-bits, length-pack, bits-drop, pack-append, pack-front, pack-bits, pack-past}
 use Rattle.bits.proofs.Parts.{part-is, small-part, length-part, part-start, part-drop}
--- handed on: what is read out of a queue is asked for here
+-- handed on to the file that asks for it here
 pub use Rattle.bits.proofs.Parts.{part-pack}
 use Rattle.bits.proofs.Laid.{laid-is, laid-laid, laid-pack, length-laid, wrote-laid, wrote-pack}
 
