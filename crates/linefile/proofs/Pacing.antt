@@ -13,6 +13,7 @@ use Rattle.mode.specs.Blocks.{Position}
 use Rattle.mode.proofs.Steps.{blackout}
 use Rattle.pace.specs.Tick.{Held, hold, opened, written, ticked, closing}
 use Rattle.pace.specs.Ticks.{joined, Each, ticks, sent, least-hold}
+use Rattle.pace.proofs.More.{ticks-more, sent-more}
 use Rattle.pace.proofs.Ticks.{hold-is-large, no-tick-refused, sent-count, closing-sends-the-rest}
 use Rattle.bits.specs.Bits.{bitsOf, part, laid}
 use lib.Seq.{take-at, drop-at}
@@ -39,7 +40,7 @@ use Rattle.linefile.specs.declared.reader.Settings.{Settings}
 use Rattle.linefile.specs.declared.running.Going.{Going}
 use Rattle.linefile.specs.Run.{lineOf}
 use Rattle.linefile.specs.Paces.{Roomy, Ticks, tickedOn, Closes, Paceable}
-use Rattle.linefile.proofs.Pieces.{pieces, pieces-length, pieces-joined, pieces-each, ticks-more, sent-more}
+use Rattle.linefile.proofs.Pieces.{pieces, pieces-length, pieces-joined, pieces-each}
 
 module _ (c : Settings) (s : List ℕ) (from n : ℕ) (o₀ : List ℕ) where
   abbrev R : Rule ℕ ℕ

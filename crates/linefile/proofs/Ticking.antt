@@ -21,17 +21,10 @@ use Rattle.linefile.specs.Paces.{Roomy, Ticks, tickedOn, Closes}
 use Rattle.paced.specs.declared.answer.Ticked.{Ticked}
 use Rattle.paced.specs.declared.answer.Moved.{Moved}
 use Rattle.paced.specs.Answers.{outcome, bitsIn}
-use Rattle.paced.proofs.Passing.{ticks, closes}
+use Rattle.paced.proofs.Passing.{small-leaving, few-leaving, ticks, ticks-line, ticks-write, small-last, few-last, closes, closes-write}
 use Rattle.paced.specs.View.{viewed, keeping}
 use Rattle.paced.specs.Ticking.{leavingFrom, heldAfter, tickAnswer, ticking, tickWrites}
 use Rattle.paced.specs.Closing.{lastFrom, closeAnswer, closing, closeWrites}
-
--- what leaves are bits, and no more of them than a tick has places
-small-leaving : (p : Paced) → Small (leavingFrom p)
-small-leaving p = small-take (p .d - p .fillers) (part (p .queue) 0 (p .ready)) (small-part (p .queue) 0 (p .ready))
-
-few-leaving : (p : Paced) → length (leavingFrom p) ≤ p .d
-few-leaving p = simp length-take (omega arith)
 
 -- bits r that lie at the start of y, as the call left it in place of z, can be laid after the first `at` bits of o
 module _ (o z y r : List ℕ) (at n : ℕ) (ey : y ≡ laid z 0 r) (en : n ≡ length r) (small : Small r) (fits : length r ≤ 8 * length z) (w : Roomy o at r) where
@@ -54,23 +47,24 @@ module _ (g : Going) (s : List ℕ) (from d : ℕ) (o : List ℕ) (t : Ticks g s
   few-d : p .d ≤ 128
   few-d = rw (t .rate) (t .low)
 
-  answer : tickAnswer p b z ≡ Ticked.Moved (length out) (length (heldAfter p b .waiting))
-  answer =
-      let lb : length b ≡ 16 = ap length eb ∙ length-pack 16 (part s from d) in
-      ticks p (t .passes) (t .is-open) b z (omega (arith, lb, few-d)) (omega (arith, lz, few-d))
+  many : p .d ≤ 8 * length b
+  many = let lb : length b ≡ 16 = ap length eb ∙ length-pack 16 (part s from d) in omega (arith, lb, few-d)
+
+  roomy : p .d ≤ 8 * length z
+  roomy = omega (arith, lz, few-d)
 
   count : n ≡ length out
-  count = en ∙ ap (λ (r : Moved). bitsIn (r .answer)) em ∙ ap bitsIn answer
+  count = en ∙ ap (λ (r : Moved). bitsIn (r .answer)) em ∙ ap bitsIn (ticks p (t .passes) (t .is-open) b z many roomy)
 
   line : m .line ≡ tickedOn g s from .line
   line =
       let given : part b 0 (p .d) ≡ part s from (p .d) = rw (t .rate) (bits-read s b from d eb (t .low) (t .there)) in
       ap (λ (r : Moved). r .line) em
-      ∙ ap (λ (a : Ticked). outcome a (keeping p (heldAfter p b)) p) answer
+      ∙ ticks-line p (t .passes) (t .is-open) b z many roomy
       ∙ ap (λ (i : List ℕ). keeping p (ticked (ruleOf (p .line)) (p .d) (viewed p) i)) given
 
   wrote : y ≡ laid z 0 out
-  wrote = ey ∙ ap (λ (a : Ticked). outcome a (laid z 0 out) z) answer
+  wrote = ey ∙ ticks-write p (t .passes) (t .is-open) b z many roomy
 
   fits : length out ≤ 8 * length z
   fits = omega (arith, few-leaving p, few-d, lz)
@@ -82,32 +76,19 @@ module _ (g : Going) (s : List ℕ) (from d : ℕ) (o : List ℕ) (t : Ticks g s
       → (record { line = m .line; at = g .at + n } ≡ tickedOn g s from) × (e ≡ laid o (g .at) out)
   tick-on e ee = ((λ i. record { line = line i; at = g .at + count i }), appended o z y out (g .at) n wrote count (small-leaving p) fits (t .writes) e ee)
 
--- what closing writes are bits, as many as wait or are ready at most
-small-last : (p : Paced) → Small (lastFrom p)
-small-last p =
-    small-append (part (p .queue) 0 (p .ready)) (outs (ruleOf (p .line)) (view (p .line)) (part (p .queue) (p .ready) (p .waiting)))
-    (small-part (p .queue) 0 (p .ready)) (small-outs (aes (box (p .line))) (settings (p .line)) (view (p .line)) (part (p .queue) (p .ready) (p .waiting)))
-
-few-last : (p : Paced) → length (lastFrom p) ≤ p .waiting + p .ready
-unfolding part
-few-last p =
-    let r : length (part (p .queue) 0 (p .ready)) ≤ p .ready = simp length-take (omega arith) in
-    let w : length (part (p .queue) (p .ready) (p .waiting)) ≤ p .waiting = simp length-take (omega arith) in
-    omega (arith, length-closing (ruleOf (p .line)) (p .d) (viewed p), r, w)
-
 module _ (g : Going) (o : List ℕ) (t : Closes g o) (z y : List ℕ) (m : Moved) (n : ℕ) (lz : length z ≡ 60) (em : m ≡ closing (g .line) z)
     (ey : y ≡ closeWrites (g .line) z) (en : n ≡ bitsIn (m .answer)) where
   abbrev last : List ℕ
   last = lastFrom (g .line)
 
-  close-answer : closeAnswer (g .line) z ≡ Ticked.Moved (length last) 0
-  close-answer = closes (g .line) (t .passes) (t .is-open) z (omega (arith, lz, t .holds-few))
+  close-roomy : g .line .waiting + g .line .ready ≤ 8 * length z
+  close-roomy = omega (arith, lz, t .holds-few)
 
   close-count : n ≡ length last
-  close-count = en ∙ ap (λ (r : Moved). bitsIn (r .answer)) em ∙ ap bitsIn close-answer
+  close-count = en ∙ ap (λ (r : Moved). bitsIn (r .answer)) em ∙ ap bitsIn (closes (g .line) (t .passes) (t .is-open) z close-roomy)
 
   close-wrote : y ≡ laid z 0 last
-  close-wrote = ey ∙ ap (λ (a : Ticked). outcome a (laid z 0 last) z) close-answer
+  close-wrote = ey ∙ closes-write (g .line) (t .passes) (t .is-open) z close-roomy
 
   close-fits : length last ≤ 8 * length z
   close-fits = omega (arith, few-last (g .line), t .holds-few, lz)

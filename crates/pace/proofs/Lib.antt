@@ -3,3 +3,4 @@ pub mod Room
 pub mod Kept
 pub mod Ticks
 pub mod Points
+pub mod More

@@ -17,6 +17,7 @@ use Rattle.bits.proofs.Blank.{pack-blank}
 use Rattle.bits.proofs.Parts.{small-part}
 use Rattle.pace.specs.Tick.{Held, hold, opened, written, ticked, closing, closed}
 use Rattle.pace.specs.Ticks.{ticks, sent, joined, Each}
+use Rattle.pace.proofs.More.{ticks-more}
 use Rattle.pace.proofs.Kept.{Kept, kept-opened, kept-ticks, few-wait}
 use Rattle.pace.proofs.Ticks.{hold-is-large, tick-writes, closing-sends-the-rest}
 use Rattle.line.specs.declared.record.Line.{Line}
@@ -45,10 +46,6 @@ small-left (a ∷ x) y h (suc i) = small-left x y (λ j. h (suc j)) i
 small-right : (x y : List ℕ) → Small (x ++ y) → Small y
 small-right [] y h = h
 small-right (a ∷ x) y h = small-right x y (λ j. h (suc j))
-
-ticks-one-more : {A B : Type 0} (R : Rule A B) (D : ℕ) (p : Held R) (is : List (List A)) (i : List A) → ticked R D (ticks R D p is) i ≡ ticks R D p (is ++ (i ∷ []))
-ticks-one-more R D p [] i = refl
-ticks-one-more R D p (j ∷ is) i = ticks-one-more R D (ticked R D p j) is i
 
 -- ---- a record and what it holds
 
@@ -165,7 +162,7 @@ module _ (s : Line) (g : Good s) (scanning : s .left ≡ 0) (d : ℕ) (some : 1 
     pub tick-reached : (input : List ℕ) → keeping (reached is) (heldAfter (reached is) input) ≡ reached (is ++ (part input 0 d ∷ []))
     tick-reached input =
         ap (λ (x : Held R). keeping (empty s d 0) (ticked R d x (part input 0 d))) viewed-reached
-        ∙ ap (keeping (empty s d 0)) (ticks-one-more R d (opened R (hold d) (view s)) is (part input 0 d))
+        ∙ ap (keeping (empty s d 0)) (sym (ticks-more R d (opened R (hold d) (view s)) is (part input 0 d)))
 
     -- ---- demand 3
 
