@@ -7,6 +7,7 @@ use lib.Dec.{eqb, ltb}
 use lib.ListN.{length, take, drop}
 use Rattle.refusal.specs.declared.Refusal.{Refusal}
 use Rattle.refusal.specs.declared.Answer.{Answer}
+use Rattle.refusal.specs.Numbers.{outcome}
 use Rattle.aes.specs.Cipher.{aes128}
 
 -- by the three lengths, the first of these that holds: the key is not 16 bytes, 1; fewer than 16 bytes of input, 6; or of room, 7
@@ -19,10 +20,6 @@ triedOf key input output =
 abbrev pub answer : List ℕ → List ℕ → List ℕ → Answer
 answer key input output = triedOf (length key) (length input) (length output)
 
--- the output where this is the answer: the block and then the bytes that were there, and unchanged on a refusal
-abbrev pub left : Answer → List ℕ → List ℕ → List ℕ
-left (Answer.Done) block output = block ++ drop 16 output
-left (Answer.Refused r) block output = output
-
+-- the output: the block and then the bytes that were there, and unchanged on a refusal
 abbrev pub after : List ℕ → List ℕ → List ℕ → List ℕ
-after key input output = left (answer key input output) (aes128 key (take 16 input)) output
+after key input output = outcome (answer key input output) (aes128 key (take 16 input) ++ drop 16 output) output

@@ -1,15 +1,17 @@
--- An opening or a run whose input passes every test is done.
-use mathlib.Core.Path.{_≡_, ap}
-use mathlib.Core.Bool.{false}
+-- An opening or a run whose input passes every test is done, and a line as it is opened passes them.
+use mathlib.Core.Path.{_≡_, refl, sym}
+use mathlib.Core.Bool.{Bool, false}
 use mathlib.Core.List.{List}
-use Prim.Native.Nat.{ℕ, _+_, _*_, _/_, _≤_}
+use Prim.Native.Nat.{ℕ, _+_, _*_, _/_, _<_, _≤_}
 use native.Mathlib.Omega.{arith}
 use lib.ListN.{length}
 use borrow.Author.Tests.{eq-eqb, le-ltb}
+use Rattle.bits.proofs.Packed.{pack-none}
 use Rattle.refusal.specs.declared.Answer.{Answer}
 use Rattle.line.specs.declared.record.Line.{Line}
-use Rattle.line.specs.Free.{openAnswer, runAnswer}
+use Rattle.line.specs.Free.{openAnswer, fresh, runAnswer}
 use Rattle.line.specs.Tests.{faulty}
+use Rattle.line.specs.Inner.{Good}
 
 pub opens : (key iv : List ℕ) (l : ℕ) → length key ≡ 16 → length iv ≡ 16 → 1 ≤ l → l ≤ 11 → openAnswer key iv l ≡ Answer.Done
 unfolding openAnswer
@@ -19,3 +21,17 @@ pub runs : (g : Line) (n : ℕ) (s d : List ℕ) → faulty g ≡ false → n �
 unfolding runAnswer
 runs g n s d f few hs hd =
     rw (f, le-ltb 524288 n few, le-ltb (length s) ((n + 7) / 8) (omega arith), le-ltb (length d) ((n + 7) / 8) (omega arith))
+
+-- a line as it is opened
+pub good-fresh : (key iv : List ℕ) (pattern l : ℕ) (receiving : Bool) → pattern < 256 → 1 ≤ l → l ≤ 11 → Good (fresh key iv pattern l receiving)
+good-fresh key iv pattern l receiving p low high = record {
+  l-low = low;
+  l-high = high;
+  place-in = omega arith;
+  left-in = omega arith;
+  collected-is = refl;
+  seen-in = omega arith;
+  pattern-in = p;
+  window-in = omega arith;
+  iv-is = sym (pack-none 16);
+}

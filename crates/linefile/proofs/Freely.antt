@@ -16,9 +16,8 @@ use Rattle.line.specs.declared.free.Reply.{Reply}
 use Rattle.line.specs.Free.{fresh, zeroLine, opening, written}
 use Rattle.line.specs.View.{ruleOf, view}
 use Rattle.line.specs.Inner.{Good}
-use Rattle.line.proofs.Passing.{opens, runs}
+use Rattle.line.proofs.Passing.{opens, runs, good-fresh}
 use Rattle.line.proofs.Records.{passes}
-use Rattle.paced.proofs.Starts.{good-fresh}
 use Rattle.linefile.specs.declared.reader.Settings.{Settings}
 use Rattle.linefile.specs.Run.{lineOf}
 

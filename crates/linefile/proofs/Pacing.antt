@@ -20,10 +20,10 @@ use lib.Seq.{take-at, drop-at}
 use Rattle.bits.proofs.Lists.{Small, small-take, small-drop}
 use Rattle.bits.proofs.Parts.{small-part, length-part}
 use Rattle.bits.proofs.Laid.{length-laid, laid-laid, laid-nothing}
+use Rattle.line.proofs.Passing.{good-fresh}
 use Rattle.line.proofs.Running.{small-outs}
 use Rattle.paced.proofs.Records.{rate-low}
 use Rattle.paced.proofs.Reached.{viewed-reached, reached-passes}
-use Rattle.paced.proofs.Starts.{good-fresh}
 use Rattle.line.specs.View.{aes, box, settings, ruleOf, view}
 use Rattle.line.specs.Inner.{Good}
 use Rattle.paced.specs.declared.record.Paced.{Paced}

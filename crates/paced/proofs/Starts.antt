@@ -1,4 +1,4 @@
--- Opening: the record it gives holds M fillers and nothing else, and its line passes the tests for 9.
+-- Opening: the record it gives holds M fillers and nothing else.
 use mathlib.Core.Path.{_≡_, refl, sym, ap, _∙_}
 use mathlib.Core.Bool.{Bool, false}
 use mathlib.Core.List.{List}
@@ -16,24 +16,11 @@ use Rattle.line.specs.declared.free.Reply.{Reply as LineReply}
 use Rattle.line.specs.Free.{openAnswer, fresh, zeroLine, opening as lineOpening}
 use Rattle.line.specs.View.{view, holding}
 use Rattle.line.specs.Inner.{Good}
+use Rattle.line.proofs.Passing.{good-fresh}
 use Rattle.line.proofs.Records.{holds}
 use Rattle.paced.specs.declared.record.Paced.{Paced}
 use Rattle.paced.specs.declared.answer.Reply.{Reply}
 use Rattle.paced.specs.Opening.{pacedAnswer, empty, freshPaced, zeroPaced, opening}
-
--- a line as it is opened
-pub good-fresh : (key iv : List ℕ) (pattern l : ℕ) (receiving : Bool) → pattern < 256 → 1 ≤ l → l ≤ 11 → Good (fresh key iv pattern l receiving)
-good-fresh key iv pattern l receiving p low high = record {
-  l-low = low;
-  l-high = high;
-  place-in = omega arith;
-  left-in = omega arith;
-  collected-is = refl;
-  seen-in = omega arith;
-  pattern-in = p;
-  window-in = omega arith;
-  iv-is = sym (pack-none 16);
-}
 
 -- with its fillers it is the record that the tick's opening asks for
 pub fresh-is : (s : Line) (d n : ℕ) → Good s → n ≡ hold d → empty s d n ≡ freshPaced s d

@@ -26,11 +26,13 @@ use Rattle.mode.proofs.Runs.{after-append, outs-append, length-outs}
 use Rattle.mode.proofs.Steps.{turns-back, same-state}
 use Rattle.mode.proofs.Blocks.{blocks-in-between}
 use Rattle.line.specs.declared.record.Line.{Line}
+use Rattle.line.specs.declared.free.Reply.{Reply}
 use Rattle.line.specs.View.{box, aes, settings, ruleOf, view, holding}
 use Rattle.line.specs.Tests.{faulty}
-use Rattle.line.specs.Free.{openAnswer, fresh, opening, runAnswer, running, written}
+use Rattle.line.specs.Free.{fresh, zeroLine, opening, runAnswer, running, written}
 use Rattle.line.specs.Inner.{Good}
 use Rattle.line.proofs.Records.{bits-of, view-ran, good-ran, passes, holds}
+use Rattle.line.proofs.Passing.{opens, good-fresh}
 use Rattle.line.proofs.Running.{small-outs}
 use Rattle.promises.specs.Calls.{Call, line, AllDone, given, out}
 use Rattle.promises.proofs.Refusals.{run-tests, run-tries, done-exactly}
@@ -55,8 +57,8 @@ module _ (g : Line) (n : ℕ) (input output : List ℕ) (done : runAnswer g n in
 
 module _ where
   pub many-calls : (cs : List Call) (g : Line) → Good g → AllDone g cs
-      → (line g cs ≡ holding g (after (ruleOf g) (view g) (given cs))) × (out g cs ≡ outs (ruleOf g) (view g) (given cs)) × Good (line g cs)
-  many-calls [] g ok done = (sym (holds g ok), refl, ok)
+      → (line g cs ≡ holding g (after (ruleOf g) (view g) (given cs))) × (out g cs ≡ outs (ruleOf g) (view g) (given cs))
+  many-calls [] g ok done = (sym (holds g ok), refl)
   many-calls (c ∷ cs) g ok done =
       let p : List ℕ = part (c .input) 0 (c .bits) in
       let t : State (Position (List ℕ)) = after (ruleOf g) (view g) p in
@@ -71,30 +73,36 @@ module _ where
         (λ i. ran-out g (c .bits) (c .input) (c .output) (done .0) i
             ++ (rest .1 ∙ ap (λ (u : Line). outs (ruleOf u) (view u) (given cs)) h ∙ ap (λ (u : State (Position (List ℕ))). outs (ruleOf g) u (given cs)) seen) i)
             ∙ sym (outs-append (ruleOf g) (view g) p (given cs)),
-        rest .2,
       )
+
+-- ---- any calls, refused or not
+
+kept-good : (a : Answer) (g h : Line) → Good g → Good h → Good (outcome a g h)
+kept-good (Answer.Done) g h ok ok′ = ok
+kept-good (Answer.Refused r) g h ok ok′ = ok′
+
+all-good : (cs : List Call) (g : Line) → Good g → Good (line g cs)
+all-good [] g ok = ok
+all-good (c ∷ cs) g ok =
+    let p : List ℕ = part (c .input) 0 (c .bits) in
+    all-good cs (running g (c .bits) (c .input) (c .output) .line)
+    (kept-good (runAnswer g (c .bits) (c .input) (c .output)) (holding g (after (ruleOf g) (view g) p)) g (good-ran g ok p (bits-of p (small-part (c .input) 0 (c .bits)))) ok)
 
 -- ---- from an opening
 
 module _ (key iv : List ℕ) (pattern l : ℕ) (low : 1 ≤ l) (high : l ≤ 11) (byte : pattern < 256) where
-  pub fresh-is-good : (receiving : Bool) → Good (fresh key iv pattern l receiving)
-  unfolding pack bitsOf
-  fresh-is-good receiving = record {
-    l-low = low;
-    l-high = high;
-    place-in = omega arith;
-    left-in = omega arith;
-    collected-is = refl;
-    seen-in = omega arith;
-    pattern-in = byte;
-    window-in = omega arith;
-    iv-is = refl;
-  }
+  fresh-is-good : (receiving : Bool) → Good (fresh key iv pattern l receiving)
+  fresh-is-good receiving = good-fresh key iv pattern l receiving byte low high
 
-  -- no record reached from an opening by runs meets a test for 9
-  pub reached-passes : (receiving : Bool) (cs : List Call) → AllDone (fresh key iv pattern l receiving) cs → faulty (line (fresh key iv pattern l receiving) cs) ≡ false
-  reached-passes receiving cs done =
-      passes (line (fresh key iv pattern l receiving) cs) (many-calls cs (fresh key iv pattern l receiving) (fresh-is-good receiving) done .2)
+  -- an opening that no test refuses gives the line that all this is about
+  pub opened-is : length key ≡ 16 → length iv ≡ 16 → (receiving : Bool)
+      → opening key iv pattern l receiving ≡ record { answer = Answer.Done; line = fresh key iv pattern l receiving }
+  opened-is hk hv receiving = ap (λ (a : Answer). record { answer = a; line = outcome a (fresh key iv pattern l receiving) zeroLine }) (opens key iv l hk hv low high)
+
+  -- no record reached from an opening by runs, refused ones among them, meets a test for 9
+  pub reached-passes : (receiving : Bool) (cs : List Call) → faulty (line (fresh key iv pattern l receiving) cs) ≡ false
+  reached-passes receiving cs =
+      passes (line (fresh key iv pattern l receiving) cs) (all-good cs (fresh key iv pattern l receiving) (fresh-is-good receiving))
 
   -- what one end enciphers from its opening, the other, opened the same but for direction and given every bit, turns back into the original
   pub turned-back : (bs : List ℕ) → Bits bs

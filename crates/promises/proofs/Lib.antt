@@ -4,3 +4,4 @@ pub mod FreeLine
 pub mod Points
 pub mod PacedLine
 pub mod PacedRefusals
+pub mod Hosts

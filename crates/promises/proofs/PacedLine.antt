@@ -1,11 +1,17 @@
 -- Demand 3 for the public paced line, sending and receiving in one statement over the direction: the records that ticks reach from an opening are those of
--- paced's `Reached`, so no test for 9 holds of them, no tick with long enough buffers is refused, and what is written is what `pace` sends.
+-- paced's `Reached`, so no test for 9 holds of them, no tick with long enough buffers is refused, and what is written is what `pace` sends. So demand 2 holds of
+-- paced lines too.
 use mathlib.Core.Path.{_≡_, refl, sym, ap, subst, _∙_}
-use mathlib.Core.Bool.{false}
+use mathlib.Core.Bool.{Bool, true, false, cond}
+use mathlib.Core.Logic.{_⊎_, inl, inr}
 use mathlib.Core.List.{List, [], _∷_, _++_, append-nil, append-assoc}
-use Prim.Native.Nat.{ℕ, suc, _+_, _-_, _*_, _/_, _≤_}
+use Prim.Native.Nat.{ℕ, suc, _+_, _-_, _*_, _/_, _<_, _≤_}
+use native.Mathlib.Decide.{decLt}
 use native.Mathlib.Omega.{arith}
 use lib.ListN.{length, take}
+use Rattle.refusal.specs.declared.Refusal.{Refusal}
+use Rattle.refusal.specs.declared.Answer.{Answer}
+use Rattle.refusal.specs.Numbers.{outcome}
 use Rattle.bits.specs.Bits.{part}
 use Rattle.bits.proofs.Lists.{Small, small-append}
 use Rattle.bits.proofs.Parts.{small-part, length-part}
@@ -13,7 +19,10 @@ use Rattle.mode.specs.Rule.{Rule, outs, Blackout}
 use Rattle.mode.proofs.Steps.{blackout}
 use Rattle.line.specs.declared.record.Line.{Line}
 use Rattle.line.specs.View.{box, aes, settings, ruleOf, view}
+use Rattle.line.specs.Free.{fresh}
 use Rattle.line.specs.Inner.{Good}
+use Rattle.line.proofs.Records.{bits-of}
+use Rattle.line.proofs.Passing.{good-fresh}
 use Rattle.pace.specs.Tick.{hold, Held, opened, written}
 use Rattle.pace.specs.Ticks.{ticks, sent, joined, Each}
 use Rattle.pace.proofs.Ticks.{sent-is-the-first, hold-is-large}
@@ -22,11 +31,14 @@ use Rattle.paced.specs.declared.record.Paced.{Paced}
 use Rattle.paced.specs.Answers.{numberOf, bitsIn}
 use Rattle.paced.specs.Tests.{faulty}
 use Rattle.paced.specs.Ticking.{tickAnswer, ticking}
-use Rattle.paced.specs.Closing.{closeAnswer, closeWrites}
-use Rattle.paced.specs.Opening.{freshPaced}
-use Rattle.paced.proofs.Passing.{ticks as tick-answers, ticks-line, ticks-read, closes-read}
-use Rattle.paced.proofs.Reached.{heldBy, reached, viewed-reached, tick-reached, reached-passes as record-passes, closing-sends as last-sends}
-use Rattle.promises.specs.Ticking.{Turn, Roomy, inputs, paced, wrote}
+use Rattle.paced.specs.Closing.{closeAnswer, closing, closeWrites}
+use Rattle.paced.specs.declared.answer.Reply.{Reply}
+use Rattle.paced.specs.Opening.{freshPaced, zeroPaced, opening}
+use Rattle.paced.proofs.Passing.{opens, ticks as tick-answers, ticks-line, ticks-read, closes-line, closes-read, short-ticks, short-closes, closed-ticks, closed-closes}
+use Rattle.paced.proofs.Reached.{heldBy, reached, viewed-reached, tick-reached, reached-passes as record-passes, closed-reached-passes, closing-sends as last-sends}
+use Rattle.promises.specs.Ticking.{Turn, Roomy, inputs, paced, wrote, Act, called}
+use Rattle.promises.proofs.FreeLine.{turned-back}
+use Rattle.promises.proofs.PacedRefusals.{refused-tick-keeps, refused-closing-keeps}
 
 module _ (s : Line) (good : Good s) (scanning : s .left ≡ 0) (D : ℕ) (some : 1 ≤ D) (rate : D * (s .l + 1) ≤ 128 * s .l) where
   abbrev R : Rule ℕ ℕ
@@ -76,13 +88,85 @@ module _ (s : Line) (good : Good s) (scanning : s .left ≡ 0) (D : ℕ) (some :
   length-inputs [] = refl
   length-inputs (c ∷ cs) = ap suc (length-inputs cs)
 
+  -- ---- any calls
+
+  -- the record is one that ticks reached, or a closed one that passes the tests
+  record Ticked-to (p : Paced) : Type 0 where
+    is : List (List ℕ)
+    each : Each D is
+    small : Small (joined is)
+    here : p ≡ P is
+
+  record Ended (p : Paced) : Type 0 where
+    passes : faulty p ≡ false
+    is-closed : p .closed ≡ true
+
+  tick-on : (p : Paced) → Ticked-to p → (input output : List ℕ) → Ticked-to (ticking p input output .line)
+  tick-on p t input output =
+      let passes : faulty (P (t .is)) ≡ false = record-passes s good scanning D some rate (t .is) (t .each) (t .small) in
+      let same : ticking p input output .line ≡ ticking (P (t .is)) input output .line = ap (λ (q : Paced). ticking q input output .line) (t .here) in
+      let stays : (8 * length input < D) ⊎ (8 * length output < D) → Ticked-to (ticking p input output .line) =
+      λ short. record { is = t .is; each = t .each; small = t .small; here = same ∙ short-ticks (P (t .is)) passes refl input output short } in
+      elim (decLt (8 * length input) D) [
+        | yes short ↦ stays (inl short)
+        | no many ↦ elim (decLt (8 * length output) D) [
+          | yes short ↦ stays (inr short)
+          | no room ↦ (
+            let i : List ℕ = part input 0 D in
+            record {
+              is = t .is ++ (i ∷ []);
+              each = each-more D (t .is) i (t .each) (length-part input 0 D (omega (arith, many)));
+              small = rw (joined-more (t .is) i) (small-append (joined (t .is)) i (t .small) (small-part input 0 D));
+              here = same ∙ ticks-line (P (t .is)) passes refl input output (omega (arith, many)) (omega (arith, room)) ∙ tick-reached s good scanning D some rate (t .is) (t .each) (t .small) input;
+            })
+        ]
+      ]
+
+  close-on : (p : Paced) → Ticked-to p → (output : List ℕ) → Ticked-to (closing p output .line) ⊎ Ended (closing p output .line)
+  close-on p t output =
+      let passes : faulty (P (t .is)) ≡ false = record-passes s good scanning D some rate (t .is) (t .each) (t .small) in
+      let same : closing p output .line ≡ closing (P (t .is)) output .line = ap (λ (q : Paced). closing q output .line) (t .here) in
+      elim (decLt (8 * length output) (P (t .is) .waiting + P (t .is) .ready)) [
+        | yes short ↦ inl (record { is = t .is; each = t .each; small = t .small; here = same ∙ short-closes (P (t .is)) passes refl output short })
+        | no room ↦ (
+          let e = same ∙ closes-line (P (t .is)) passes refl output (omega (arith, room)) in
+          inr (record {
+            passes = ap faulty e ∙ closed-reached-passes s good scanning D some rate (t .is) (t .each) (t .small);
+            is-closed = ap (λ (q : Paced). q .closed) e;
+          }))
+      ]
+
+  abbrev Fine : Paced → Type 0
+  Fine p = Ticked-to p ⊎ Ended p
+
+  either-fine : (b : Bool) (x y : Paced) → Fine x → Fine y → Fine (cond b x y)
+  either-fine true x y h k = h
+  either-fine false x y h k = k
+
+  fine-on : (p : Paced) (a : Act) → Fine p → Fine (cond (a .closes) (closing p (a .output) .line) (ticking p (a .input) (a .output) .line))
+  fine-on p a (inl t) = either-fine (a .closes) _ _ (close-on p t (a .output)) (inl (tick-on p t (a .input) (a .output)))
+  fine-on p a (inr e) =
+      let tick-keeps = refused-tick-keeps p (a .input) (a .output) (Refusal.Closed) (closed-ticks p (e .passes) (e .is-closed) (a .input) (a .output)) .0 in
+      let closing-keeps = refused-closing-keeps p (a .output) (Refusal.Closed) (closed-closes p (e .passes) (e .is-closed) (a .output)) .0 in
+      either-fine (a .closes) _ _ (inr (subst Ended (sym closing-keeps) e)) (inr (subst Ended (sym tick-keeps) e))
+
+  fine-passes : (p : Paced) → Fine p → faulty p ≡ false
+  fine-passes p (inl t) = ap faulty (t .here) ∙ record-passes s good scanning D some rate (t .is) (t .each) (t .small)
+  fine-passes p (inr e) = e .passes
+
+  all-pass : (acts : List Act) (p : Paced) → Fine p → faulty (called p acts) ≡ false
+  all-pass [] p f = fine-passes p f
+  all-pass (a ∷ acts) p f = all-pass acts _ (fine-on p a f)
+
+  -- no record reached from an opening by any calls, refused ones and closings among them, meets a test for 9
+  pub reached-passes : (acts : List Act) → faulty (called (freshPaced s D) acts) ≡ false
+  reached-passes acts = all-pass acts (freshPaced s D) (inl (record { is = []; each = tt; small = none-given; here = refl }))
+
+  -- ---- ticks with long enough buffers
+
   module _ (cs : List Turn) (roomy : Roomy D cs) where
     ticked-to : paced (freshPaced s D) cs ≡ P (inputs D cs)
     ticked-to = walk cs [] tt none-given roomy .0
-
-    -- no record reached from an opening by ticks meets a test for 9
-    pub reached-passes : faulty (paced (freshPaced s D) cs) ≡ false
-    reached-passes = ap faulty ticked-to ∙ record-passes s good scanning D some rate (inputs D cs) (each-inputs cs roomy) (small-inputs cs)
 
     -- no tick with long enough buffers on an opened, unclosed line is refused
     pub no-tick-is-refused : (input output : List ℕ) → (D + 7) / 8 ≤ length input → (D + 7) / 8 ≤ length output → numberOf (tickAnswer (paced (freshPaced s D) cs) input output) ≡ 0
@@ -107,3 +191,34 @@ module _ (s : Line) (good : Good s) (scanning : s .left ≡ 0) (D : ℕ) (some :
         (λ j. walk cs [] tt none-given roomy .1 j
             ++ (ap (λ (q : Paced). part (closeWrites q output) 0 (bitsIn (closeAnswer q output))) ticked-to ∙ closes-read p passes refl output (omega (arith, fits))) j)
         ∙ last-sends s good scanning D some rate (inputs D cs) (each-inputs cs roomy) (small-inputs cs)
+
+-- ---- demand 2: what one end sends by ticks and closing, the other, opened the same but for direction and given every bit, turns back into the original
+
+module _ (key iv : List ℕ) (pattern l : ℕ) (low : 1 ≤ l) (high : l ≤ 11) (byte : pattern < 256) (D : ℕ) (some : 1 ≤ D) (rate : D * (l + 1) ≤ 128 * l) where
+  abbrev end : Bool → Line
+  end receiving = fresh key iv pattern l receiving
+
+  -- an opening that no test refuses gives the line that all this is about
+  pub opened-is : length key ≡ 16 → length iv ≡ 16 → (receiving : Bool)
+      → opening key iv pattern l receiving D ≡ record { answer = Answer.Done; line = freshPaced (end receiving) D }
+  opened-is hk hv receiving =
+      ap (λ (a : Answer). record { answer = a; line = outcome a (freshPaced (end receiving) D) zeroPaced }) (opens key iv l D hk hv low high some rate)
+
+  -- all that ticks and a closing into this output write
+  abbrev all : Bool → List Turn → List ℕ → List ℕ
+  all receiving cs output =
+      wrote (freshPaced (end receiving) D) cs
+      ++ part (closeWrites (paced (freshPaced (end receiving) D) cs) output) 0 (bitsIn (closeAnswer (paced (freshPaced (end receiving) D) cs) output))
+
+  abbrev Long : Bool → List Turn → List ℕ → Type 0
+  Long receiving cs output = (paced (freshPaced (end receiving) D) cs .waiting + paced (freshPaced (end receiving) D) cs .ready + 7) / 8 ≤ length output
+
+  pub ends-agree : (cs ds : List Turn) (o o′ : List ℕ) → Roomy D cs → Roomy D ds → Long false cs o → Long true ds o′
+      → joined (inputs D ds) ≡ all false cs o → all true ds o′ ≡ joined (inputs D cs)
+  ends-agree cs ds o o′ roomy roomy′ long long′ every =
+      let sent-all = closing-sends (end false) (good-fresh key iv pattern l false byte low high) refl D some rate cs roomy o long in
+      let heard-all = closing-sends (end true) (good-fresh key iv pattern l true byte low high) refl D some rate ds roomy′ o′ long′ in
+      let bits = small-inputs (end false) (good-fresh key iv pattern l false byte low high) refl D some rate cs in
+      heard-all
+      ∙ ap (outs (ruleOf (end true)) (view (end true))) (every ∙ sent-all)
+      ∙ turned-back key iv pattern l low high byte (joined (inputs D cs)) (bits-of (joined (inputs D cs)) bits)

@@ -5,10 +5,12 @@ use mathlib.Core.Bool.{Bool, true, false, not, cond, _||_, true≢false}
 use mathlib.Core.List.{List, [], _∷_, _++_}
 use Prim.Native.Nat.{ℕ, _+_, _/_}
 use lib.Dec.{eqb, ltb}
-use lib.ListN.{length}
+use lib.ListN.{length, take, drop}
 use Rattle.refusal.specs.declared.Refusal.{Refusal}
 use Rattle.refusal.specs.declared.Answer.{Answer}
 use Rattle.refusal.specs.Numbers.{numberOf, outcome}
+use Rattle.aes.specs.Cipher.{aes128}
+use Rattle.aes.specs.Block.{answer as blockAnswer, after as blockAfter}
 use Rattle.line.specs.declared.record.Line.{Line}
 use Rattle.line.specs.Tests.{faulty}
 use Rattle.mode.specs.Rule.{after, outs}
@@ -76,7 +78,21 @@ pub run-tries : (g : Line) (n : ℕ) (input output : List ℕ) → runAnswer g n
 unfolding runAnswer
 run-tries g n input output = refl
 
+-- ---- AES of one block on slices
+
+abbrev pub block-tests : List ℕ → List ℕ → List ℕ → List Test
+block-tests key input output =
+    record { holds = not (eqb (length key) 16); refusal = Refusal.Key }
+    ∷ record { holds = ltb (length input) 16; refusal = Refusal.Input }
+    ∷ record { holds = ltb (length output) 16; refusal = Refusal.Output } ∷ []
+
+pub block-tries : (key input output : List ℕ) → blockAnswer key input output ≡ tried (block-tests key input output)
+block-tries key input output = either (eqb (length key) 16) _ _
+
 -- ---- what a refusal leaves
+
+pub refused-block-keeps : (key input output : List ℕ) (r : Refusal) → blockAnswer key input output ≡ Answer.Refused r → blockAfter key input output ≡ output
+refused-block-keeps key input output r e = ap (λ (a : Answer). outcome a (aes128 key (take 16 input) ++ drop 16 output) output) e
 
 -- the line's record as it came, and no buffer touched
 pub refused-run-keeps : (g : Line) (n : ℕ) (input output : List ℕ) (r : Refusal) → runAnswer g n input output ≡ Answer.Refused r

@@ -10,8 +10,9 @@ use lib.Seq.{take-all}
 use borrow.Author.Tests.{eq-eqb, ne-eqb, lt-ltb, le-ltb}
 use Rattle.refusal.specs.declared.Refusal.{Refusal}
 use Rattle.refusal.specs.declared.Answer.{Answer}
+use Rattle.refusal.specs.Numbers.{outcome}
 use Rattle.aes.specs.Cipher.{aes128}
-use Rattle.aes.specs.Block.{triedOf, answer, left, after}
+use Rattle.aes.specs.Block.{triedOf, answer, after}
 use Rattle.aes.specs.Inner.{writtenOf, frontOf}
 use Rattle.aes.proofs.Lists.{many-take}
 use Rattle.aes.proofs.Schedule.{aes-length}
@@ -50,7 +51,7 @@ written-is : (key input output : List ℕ) (a : Answer)
 written-is key input output a e =
     rw e
     (by-answer
-    (λ a. take (writtenOf a) (aes128 (frontOf key) (frontOf input)) ++ drop (writtenOf a) output ≡ left a (aes128 key (take 16 input)) output)
+    (λ a. take (writtenOf a) (aes128 (frontOf key) (frontOf input)) ++ drop (writtenOf a) output ≡ outcome a (aes128 key (take 16 input) ++ drop 16 output) output)
     (length key) (length input) (length output) (λ r. refl)
     (λ ek hi ho.
     let k : frontOf key ≡ key = whole key (omega arith) ∙ take-all 16 key (omega arith) in
