@@ -150,9 +150,20 @@ low-digits n x e =
     let t : x / 2 ^ n * 2 ^ n ≡ 0 = ap (λ (k : ℕ). k * 2 ^ n) e ∙ z in
     omega (arith, mod-lt x (pow-pos n))
 
-pub good-of : (s : Line) → faulty s ≡ false → s .pattern < 256 → length (s .iv) ≡ 16 → Bytes (s .iv) → Good s
+-- what the tests for 9 say of a record that passes them
+pub record Passed (s : Line) : Type 0 where
+  pub l-low : 1 ≤ s .l
+  pub l-high : s .l ≤ 11
+  pub place-in : s .position .place ≤ 127
+  pub left-in : s .left ≤ 128 * s .l
+  pub collected-is : s .collected ≡ dueIn s
+  pub seen-in : s .seen ≤ mostIn s
+  pub window-in : s .window / 2 ^ s .seen ≡ 0
+  pub rest-blank : blank (drop (s .collected) (bitsOf (s .iv))) ≡ true
+
+pub passed : (s : Line) → faulty s ≡ false → Passed s
 unfolding faulty
-good-of s e p n b =
+passed s e =
     let q8 = neither _ (not (blank (drop (s .collected) (bitsOf (s .iv))))) e in
     let q7 = neither _ (not (eqb (s .window / 2 ^ s .seen) 0)) (q8 .0) in
     let q6 = neither _ (ltb (mostIn s) (s .seen)) (q7 .0) in
@@ -163,13 +174,27 @@ good-of s e p n b =
     record {
       l-low = ltb-false (s .l) 1 (q2 .0);
       l-high = ltb-false 11 (s .l) (q2 .1);
-      place-in = (let h : s .position .place ≤ 127 = ltb-false 127 (s .position .place) (q3 .1) in omega arith);
+      place-in = ltb-false 127 (s .position .place) (q3 .1);
       left-in = ltb-false (128 * s .l) (s .left) (q4 .1);
       collected-is = eqb-true (s .collected) (dueIn s) (not-false (eqb (s .collected) (dueIn s)) (q5 .1));
       seen-in = ltb-false (mostIn s) (s .seen) (q6 .1);
+      window-in = eqb-true (s .window / 2 ^ s .seen) 0 (not-false (eqb (s .window / 2 ^ s .seen) 0) (q7 .1));
+      rest-blank = not-false (blank (drop (s .collected) (bitsOf (s .iv)))) (q8 .1);
+    }
+
+pub good-of : (s : Line) → faulty s ≡ false → s .pattern < 256 → length (s .iv) ≡ 16 → Bytes (s .iv) → Good s
+good-of s e p n b =
+    let q = passed s e in
+    record {
+      l-low = q .l-low;
+      l-high = q .l-high;
+      place-in = omega (arith, q .place-in);
+      left-in = q .left-in;
+      collected-is = q .collected-is;
+      seen-in = q .seen-in;
       pattern-in = p;
-      window-in = low-digits (s .seen) (s .window) (eqb-true (s .window / 2 ^ s .seen) 0 (not-false (eqb (s .window / 2 ^ s .seen) 0) (q7 .1)));
-      iv-is = blank-pack 16 (s .iv) (s .collected) n b (not-false (blank (drop (s .collected) (bitsOf (s .iv)))) (q8 .1));
+      window-in = low-digits (s .seen) (s .window) (q .window-in);
+      iv-is = blank-pack 16 (s .iv) (s .collected) n b (q .rest-blank);
     }
 
 pub passes : (s : Line) → Good s → faulty s ≡ false

@@ -23,6 +23,16 @@ module _ {A B : Type 0} (R : Rule A B) (D : ℕ) (p : Held R) where
   length-written enough = length-take-le (leaving R D p) (p .ready) (omega arith)
 
   module _ (input : List A) where
+    -- what is held, piece by piece
+    pub ticked-is : ticked R D p input ≡ record {
+      state = after R (p .state) (passing R p input);
+      ready = drop (leaving R D p) (p .ready) ++ outs R (p .state) (passing R p input);
+      waiting = staying R p input;
+      fillers = p .fillers - D;
+    }
+    unfolding ticked
+    ticked-is = refl
+
     halves : passing R p input ++ staying R p input ≡ p .waiting ++ input
     halves = take-append-drop (moving R p input) (p .waiting ++ input)
 

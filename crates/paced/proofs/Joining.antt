@@ -9,8 +9,6 @@ use Rattle.bits.specs.Bits.{bitsOf, pack, part, laid, wrote}
 use Rattle.bits.proofs.Lists.{Small, Bytes, small-take, bytes-drop}
 use Rattle.bits.proofs.Packed.{length-bits, small-bits, length-pack, bits-drop, pack-append, pack-front, pack-bits, pack-past}
 use Rattle.bits.proofs.Parts.{part-is, small-part, length-part, part-start, part-drop}
--- handed on to the file that asks for it here
-pub use Rattle.bits.proofs.Parts.{part-pack}
 use Rattle.bits.proofs.Laid.{laid-is, laid-laid, laid-pack, length-laid, wrote-laid, wrote-pack}
 
 pub length-packed : (q x : List ℕ) → q ≡ pack 60 x → length q ≡ 60

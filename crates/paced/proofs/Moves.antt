@@ -17,6 +17,7 @@ use Rattle.bits.proofs.Packed.{pack-past}
 use Rattle.bits.proofs.Parts.{small-part, length-part, take-part, part-drop, part-split, part-pack}
 use Rattle.pace.specs.Tick.{Held, hold, width, moves, leaving, written, moving, passing, ticked}
 use Rattle.pace.proofs.Moves.{moves-what-waits, moves-cases}
+use Rattle.pace.proofs.Kept.{ticked-is}
 use Rattle.line.specs.declared.record.Line.{Line}
 use Rattle.line.specs.View.{ruleOf, view, holding}
 use Rattle.paced.specs.declared.record.Paced.{Paced}
@@ -165,16 +166,17 @@ module _ (p : Paced) (o : Open p) where
             line = record { line = m .line; d = p .d; closed = p .closed; ready = ready; waiting = still; fillers = fillers; queue = m .queue };
           }
           ≡ tickedTo p input
-      unfolding ticked
-      tick-is still ready fillers es er ef = λ i. record {
-        answer = Ticked.Moved ((re ∙ sym length-leaving) i) ((es ∙ waiting-is) i);
-        line = record {
-          line = line-is i;
-          d = p .d;
-          closed = p .closed;
-          ready = (er ∙ ready-is) i;
-          waiting = (es ∙ waiting-is) i;
-          fillers = ef i;
-          queue = queue-is i;
-        };
-      }
+      tick-is still ready fillers es er ef =
+          (λ i. record {
+            answer = Ticked.Moved ((re ∙ sym length-leaving) i) ((es ∙ waiting-is) i);
+            line = record {
+              line = line-is i;
+              d = p .d;
+              closed = p .closed;
+              ready = (er ∙ ready-is) i;
+              waiting = (es ∙ waiting-is) i;
+              fillers = ef i;
+              queue = queue-is i;
+            };
+          })
+          ∙ ap (λ (h : Held R). record { answer = Ticked.Moved (length (leavingFrom p)) (length (h .waiting)); line = keeping p h }) (sym (ticked-is R (p .d) (viewed p) (part input 0 (p .d))))

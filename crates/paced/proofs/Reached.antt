@@ -33,10 +33,9 @@ use Rattle.paced.specs.Opening.{empty, freshPaced}
 use Rattle.paced.specs.Ticking.{leavingFrom, heldAfter}
 use Rattle.paced.specs.Closing.{lastFrom}
 use Rattle.paced.specs.Inner.{Open}
-use Rattle.paced.proofs.Joining.{part-pack}
 use Rattle.paced.proofs.Records.{rate-low, slow-passes, open-passes}
 use Rattle.paced.proofs.Moves.{readyBits, waitingBits, length-ready-bits, length-waiting-bits}
-use Rattle.bits.proofs.Parts.{part-split}
+use Rattle.bits.proofs.Parts.{part-split, part-pack}
 
 small-left : (x y : List ℕ) → Small (x ++ y) → Small x
 small-left [] y h i = omega arith

@@ -16,7 +16,7 @@ use Rattle.bits.proofs.Blank.{blank-pack, pack-blank}
 use Rattle.bits.proofs.Parts.{part-start}
 use Rattle.pace.specs.Tick.{hold}
 use Rattle.line.specs.declared.record.Line.{Line}
-use Rattle.line.specs.Tests.{dueIn, mostIn, faulty as lineFaulty}
+use Rattle.line.specs.Tests.{faulty as lineFaulty}
 use Rattle.line.specs.Inner.{Good}
 use Rattle.line.proofs.Records.{neither, good-of, passes}
 use Rattle.paced.specs.declared.record.Paced.{Paced}
@@ -44,18 +44,6 @@ slow-of d l e =
 
 pub slow-passes : (d l : ℕ) → 1 ≤ d → d * (l + 1) ≤ 128 * l → tooFast d l ≡ false
 slow-passes d l some slow = simp (ne-eqb d 0 (λ e. absurd (omega arith)), le-ltb (128 * l) (d * (l + 1)) slow)
-
--- L is no more than 11 where the line passes its own tests
-pub low-l : (s : Line) → lineFaulty s ≡ false → s .l ≤ 11
-unfolding lineFaulty
-low-l s e =
-    let q8 = neither _ (not (blank (drop (s .collected) (bitsOf (s .iv))))) e in
-    let q7 = neither _ (not (eqb (s .window / 2 ^ s .seen) 0)) (q8 .0) in
-    let q6 = neither _ (ltb (mostIn s) (s .seen)) (q7 .0) in
-    let q5 = neither _ (not (eqb (s .collected) (dueIn s))) (q6 .0) in
-    let q4 = neither _ (ltb (128 * s .l) (s .left)) (q5 .0) in
-    let q3 = neither _ (ltb 127 (s .position .place)) (q4 .0) in
-    ltb-false 11 (s .l) (neither (ltb (s .l) 1) (ltb 11 (s .l)) (q3 .0) .1)
 
 module _ (p : Paced) where
   pub open-of : faulty p ≡ false → p .closed ≡ false → p .line .pattern < 256 → length (p .line .iv) ≡ 16 → Bytes (p .line .iv) → length (p .queue) ≡ 60 → Bytes (p .queue) → Open p

@@ -50,36 +50,26 @@ fn zero() -> Paced
 pub fn open(key: &[u8], iv: &[u8], pattern: u8, l: u64, receiving: bool, d: u64) -> Reply
     ensures { λ r. ⌜ r ≡ openingOf (now (key .entry)) (now (iv .entry)) pattern l receiving d ⌝ }
 {
-    let none = zero();
-    if key.len() != 16 {
-        return Reply {
-            answer: Answer::Refused(Refusal::Key),
-            line: none,
-        };
-    }
-    if iv.len() != 16 {
-        return Reply {
-            answer: Answer::Refused(Refusal::Iv),
-            line: none,
-        };
-    }
-    if (l < 1) | (11 < l) {
-        return Reply {
-            answer: Answer::Refused(Refusal::Blackout),
-            line: none,
-        };
-    }
-    if tests::is_too_fast(d, l) {
-        return Reply {
-            answer: Answer::Refused(Refusal::Rate),
-            line: none,
-        };
-    }
-    let reply = line::free::open(key, iv, pattern, l, receiving);
-    let line = reply.line;
-    let fillers = tests::hold_of(d as usize) as u16;
-    Reply {
-        answer: Answer::Done,
-        line: empty(line, d as u8, fillers),
+    let opened = line::free::open(key, iv, pattern, l, receiving);
+    let answer = opened.answer;
+    match answer {
+        Answer::Done => {
+            if tests::is_too_fast(d, l) {
+                return Reply {
+                    answer: Answer::Refused(Refusal::Rate),
+                    line: zero(),
+                };
+            }
+            let line = opened.line;
+            let fillers = tests::hold_of(d as usize) as u16;
+            Reply {
+                answer: Answer::Done,
+                line: empty(line, d as u8, fillers),
+            }
+        }
+        Answer::Refused(why) => Reply {
+            answer: Answer::Refused(why),
+            line: zero(),
+        },
     }
 }

@@ -112,13 +112,13 @@ module _ (s : Line) (good : Good s) (scanning : s .left ≡ 0) (D : ℕ) (some :
         | no many ↦ elim (decLt (8 * length output) D) [
           | yes short ↦ stays (inr short)
           | no room ↦ (
-            let i : List ℕ = part input 0 D in
-            record {
-              is = t .is ++ (i ∷ []);
-              each = each-more D (t .is) i (t .each) (length-part input 0 D (omega (arith, many)));
-              small = rw (joined-more (t .is) i) (small-append (joined (t .is)) i (t .small) (small-part input 0 D));
-              here = same ∙ ticks-line (P (t .is)) passes refl input output (omega (arith, many)) (omega (arith, room)) ∙ tick-reached s good scanning D some rate (t .is) (t .each) (t .small) input;
-            })
+              let i : List ℕ = part input 0 D in
+              record {
+                is = t .is ++ (i ∷ []);
+                each = each-more D (t .is) i (t .each) (length-part input 0 D (omega (arith, many)));
+                small = rw (joined-more (t .is) i) (small-append (joined (t .is)) i (t .small) (small-part input 0 D));
+                here = same ∙ ticks-line (P (t .is)) passes refl input output (omega (arith, many)) (omega (arith, room)) ∙ tick-reached s good scanning D some rate (t .is) (t .each) (t .small) input;
+              })
         ]
       ]
 
@@ -129,11 +129,11 @@ module _ (s : Line) (good : Good s) (scanning : s .left ≡ 0) (D : ℕ) (some :
       elim (decLt (8 * length output) (P (t .is) .waiting + P (t .is) .ready)) [
         | yes short ↦ inl (record { is = t .is; each = t .each; small = t .small; here = same ∙ short-closes (P (t .is)) passes refl output short })
         | no room ↦ (
-          let e = same ∙ closes-line (P (t .is)) passes refl output (omega (arith, room)) in
-          inr (record {
-            passes = ap faulty e ∙ closed-reached-passes s good scanning D some rate (t .is) (t .each) (t .small);
-            is-closed = ap (λ (q : Paced). q .closed) e;
-          }))
+            let e = same ∙ closes-line (P (t .is)) passes refl output (omega (arith, room)) in
+            inr (record {
+              passes = ap faulty e ∙ closed-reached-passes s good scanning D some rate (t .is) (t .each) (t .small);
+              is-closed = ap (λ (q : Paced). q .closed) e;
+            }))
       ]
 
   abbrev Fine : Paced → Type 0
@@ -189,7 +189,7 @@ module _ (s : Line) (good : Good s) (scanning : s .left ≡ 0) (D : ℕ) (some :
         let fits : (p .waiting + p .ready + 7) / 8 ≤ length output = subst (λ (q : Paced). (q .waiting + q .ready + 7) / 8 ≤ length output) ticked-to room in
         let passes = record-passes s good scanning D some rate (inputs D cs) (each-inputs cs roomy) (small-inputs cs) in
         (λ j. walk cs [] tt none-given roomy .1 j
-            ++ (ap (λ (q : Paced). part (closeWrites q output) 0 (bitsIn (closeAnswer q output))) ticked-to ∙ closes-read p passes refl output (omega (arith, fits))) j)
+        ++ (ap (λ (q : Paced). part (closeWrites q output) 0 (bitsIn (closeAnswer q output))) ticked-to ∙ closes-read p passes refl output (omega (arith, fits))) j)
         ∙ last-sends s good scanning D some rate (inputs D cs) (each-inputs cs roomy) (small-inputs cs)
 
 -- ---- demand 2: what one end sends by ticks and closing, the other, opened the same but for direction and given every bit, turns back into the original

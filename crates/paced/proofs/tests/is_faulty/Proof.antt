@@ -9,7 +9,7 @@ use Rattle.bits.specs.Bits.{bitsOf}
 use Rattle.bits.specs.Blank.{blank}
 use Rattle.line.specs.Tests.{faulty as lineFaulty}
 use Rattle.paced.specs.Tests.{tooFast, miscounted, faulty}
-use Rattle.paced.proofs.Records.{low-l}
+use Rattle.line.proofs.Records.{passed}
 use Rattle.paced.proofs.tests.is_faulty.Statement.{statement}
 use Rattle.paced.proofs.tests.is_faulty.Tie as tie
 
@@ -24,7 +24,7 @@ is-too-fast-requires : tie.Need-is-too-fast-requires
 is-too-fast-requires c κs =
     let p = c .before .before .before .before .before .args .p in
     let f1 : lineFaulty (p .line) ≡ false = sym (c .before .before .before .is-faulty .ensures) ∙ c .before .before .if1 .left in
-    omega (arith, low-l (p .line) f1, c .long2 .ensures)
+    omega (arith, passed (p .line) f1 .l-high, c .long2 .ensures)
 
 returns-2 : tie.Need-returns-2
 unfolding faulty
