@@ -23,10 +23,6 @@ pub aes-length : (key block : List ℕ) → length (aes128 key block) ≡ 16
 unfolding aes128
 aes-length key block = cipher-length (keyExpansion key) block
 
-pub by-length : (ks : List State) (block : List ℕ) → length (cipherBy ks block) ≡ 16
-unfolding cipherBy
-by-length ks block = cipher-length (map columns ks) block
-
 -- a round key that was laid out and is read by its columns is the same again
 again : (w : List Word) → columns (columns w) ≡ w → (n : ℕ) → columns (columns (roundKey w n)) ≡ roundKey w n
 unfolding columns xorWord nextKey roundKey

@@ -8,7 +8,7 @@ use native.Mathlib.Decide.{decLt}
 use lib.ListN.{length, getD, take, drop, length-take, take-append-drop, drop-of-length-le, List·getD-eq-default}
 use lib.Seq.{getD-drop, drop-drop, drop-cons, ext-getD}
 use lib.Dec.{eqb}
-use borrow.Author.Tests.{eqb-true, eq-eqb, ne-eqb}
+use borrow.Author.Tests.{eqb-true, eq-eqb}
 use Rattle.bits.specs.Bits.{bitsOf, byteOf, pack, part, digits}
 use Rattle.bits.specs.Blank.{blank}
 use native.Mathlib.Numerals.{add-one}
@@ -34,14 +34,6 @@ pub blank-of : (b : List ℕ) → ((i : ℕ) → getD b i 0 ≡ 0) → blank b �
 unfolding blank
 blank-of [] h = refl
 blank-of (x ∷ b) h = rw (eq-eqb x 0 (h 0)) (blank-of b (λ i. h (suc i)))
-
--- a one anywhere shows
-pub blank-not : (b : List ℕ) (i : ℕ) → (getD b i 0 ≡ 0 → ⊥) → blank b ≡ false
-blank-not b i h = go (blank b) refl
-  where
-    go : (t : Bool) → blank b ≡ t → t ≡ false
-    go true e = absurd (h (blank-at b e i))
-    go false e = refl
 
 take-blank : (n : ℕ) (b : List ℕ) → blank (drop n b) ≡ true → Alike (take n b) b
 take-blank zero b e i = sym (blank-at b e i)

@@ -202,9 +202,3 @@ pack-bits-take (suc k) (x ∷ s) h le =
 
 pub pack-bits : (s : List ℕ) → Bytes s → pack (length s) (bitsOf s) ≡ s
 pack-bits s h = pack-bits-take (length s) s h (omega arith) ∙ take-length s
-
--- bytes are told by their bits
-pub same-bits : (s t : List ℕ) → Bytes s → Bytes t → bitsOf s ≡ bitsOf t → s ≡ t
-same-bits s t hs ht e =
-    let n : length s ≡ length t = omega (arith, length-bits s, length-bits t, ap length e) in
-    sym (pack-bits s hs) ∙ (λ i. pack (n i) (e i)) ∙ pack-bits t ht

@@ -1,12 +1,11 @@
 -- Parts of the bits of a buffer: a part splits where it is cut, bytes packed from bits have the parts of these bits, and sixteen bytes hold a part of up to
 -- 128 bits. Assumes nothing.
 use mathlib.Core.Path.{_≡_, refl, sym, ap, _∙_}
-use mathlib.Core.List.{List, [], _∷_, _++_}
-use Prim.Native.Nat.{ℕ, suc, _+_, _-_, _*_, _≤_, _<_}
-use native.Mathlib.Numerals.{add-one}
+use mathlib.Core.List.{List, [], _++_}
+use Prim.Native.Nat.{ℕ, _+_, _*_, _≤_, _<_}
 use native.Mathlib.Omega.{arith}
 use lib.ListN.{length, getD, take, drop, length-take, length-drop, take-append-drop}
-use lib.Seq.{drop-cons, take-add, drop-drop, getD-take, getD-drop, take-all, take-take, take-append-le, ext-getD}
+use lib.Seq.{take-add, drop-drop, getD-take, getD-drop, take-take, take-append-le, ext-getD}
 use Rattle.bits.specs.Bits.{bitsOf, pack, part}
 use Rattle.bits.proofs.Lists.{Small, Bytes, small-take, small-drop, bytes-drop, drop-take}
 use Rattle.bits.proofs.Packed.{length-bits, small-bits, bits-drop, bits-append, length-pack, bits-pack, pack-take, pack-bits-take}
@@ -31,11 +30,6 @@ short-part s i n = simp length-take (omega arith)
 pub part-none : (s : List ℕ) (i n : ℕ) → n ≡ 0 → part s i n ≡ []
 unfolding part
 part-none s i n e = rw e
-
--- the whole of it
-pub part-all : (s : List ℕ) (n : ℕ) → 8 * length s ≤ n → part s 0 n ≡ bitsOf s
-unfolding part
-part-all s n h = take-all n (bitsOf s) (rw length-bits h)
 
 pub part-start : (s : List ℕ) (n : ℕ) → part s 0 n ≡ take n (bitsOf s)
 unfolding part
@@ -63,14 +57,6 @@ part-drop q r n = drop-take r n (bitsOf q)
 pub part-from : (s : List ℕ) (start n : ℕ) → part (drop start s) 0 n ≡ part s (8 * start) n
 unfolding part
 part-from s start n = ap (take n) (sym (bits-drop start s))
-
--- the bits from i on are bit i and those from i + 1 on
-pub part-more : (s : List ℕ) (i end : ℕ) → i < end → end ≤ 8 * length s → part s i (end - i) ≡ getD (bitsOf s) i 0 ∷ part s (i + 1) (end - (i + 1))
-unfolding part
-part-more s i end lt fit =
-    let k : end - i ≡ suc (end - (i + 1)) = omega arith in
-    let h : i < length (bitsOf s) = rw length-bits (omega arith) in
-    rw (k, add-one i, drop-cons (bitsOf s) i 0 h)
 
 -- what `read` gives has these bits
 pub pack-part : (s : List ℕ) (i n k : ℕ) → n ≤ 8 * k → i + n ≤ 8 * length s → take n (bitsOf (pack k (part s i n))) ≡ part s i n

@@ -1,20 +1,19 @@
 -- A record and the state it holds tell each other: `view` and `holding` undo each other on records that pass the tests for 9, which are just the
 -- records that hold a state in the mode's ranges.
-use mathlib.Core.Path.{_≡_, refl, sym, ap, subst, _∙_}
+use mathlib.Core.Path.{_≡_, refl, sym, ap, _∙_}
 use mathlib.Core.Bool.{Bool, true, false, not, cond, _||_, true≢false}
-use mathlib.Core.List.{List, [], _∷_, _++_}
+use mathlib.Core.List.{List, [], _∷_}
 use Prim.Native.Nat.{ℕ, zero, suc, _+_, _-_, _*_, _/_, _%_, _^_, _<_, _≤_, min}
 use native.Mathlib.Nat.{mod-lt, div-eq-of-lt}
 use native.Mathlib.Omega.{arith}
 use lib.Dec.{ltb, eqb}
 use lib.ListN.{length, take, drop, length-take}
 use lib.Pow.{split, pow-pos}
-use borrow.Author.Tests.{ltb-true, ltb-false, eqb-true, eq-eqb, lt-ltb, le-ltb, not-false}
+use borrow.Author.Tests.{ltb-false, eqb-true, eq-eqb, lt-ltb, le-ltb, not-false}
 use Rattle.mode.specs.Rule.{after}
-use Rattle.mode.specs.Mode.{Settings, State, Bits, rule}
+use Rattle.mode.specs.Mode.{Settings, State, Bits}
 use Rattle.mode.specs.Blocks.{Position}
 use Rattle.mode.specs.Words.{Within, due, most}
-use Rattle.mode.proofs.Cases.{picked}
 use Rattle.mode.proofs.Steps.{within-after, generator-keeps}
 use Rattle.mode.proofs.Blocks.{onward-place}
 use Rattle.bits.specs.Bits.{bitsOf, pack, digits}

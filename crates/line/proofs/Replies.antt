@@ -1,8 +1,8 @@
 -- What an opening and a run reply, from the tests that decide the answer.
 use mathlib.Core.Path.{_≡_, ap, _∙_}
-use mathlib.Core.Bool.{Bool, true, false, cond, _||_}
+use mathlib.Core.Bool.{Bool}
 use mathlib.Core.List.{List}
-use Prim.Native.Nat.{ℕ, _+_, _*_, _/_, _<_, _≤_}
+use Prim.Native.Nat.{ℕ}
 use native.Mathlib.Omega.{arith}
 use lib.ListN.{length}
 use lib.Seq.{take-all}
@@ -14,7 +14,6 @@ use Rattle.refusal.specs.declared.Refusal.{Refusal}
 use Rattle.refusal.specs.declared.Answer.{Answer}
 use Rattle.refusal.specs.Numbers.{outcome}
 use Rattle.line.specs.declared.record.Line.{Line}
-use Rattle.line.specs.declared.free.Reply.{Reply}
 use Rattle.line.specs.Free.{openAnswer, fresh, zeroLine, opening, runAnswer, running, written}
 use Rattle.line.specs.View.{ruleOf, view, holding}
 use Rattle.line.specs.Inner.{Whole}

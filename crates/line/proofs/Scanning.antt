@@ -1,20 +1,18 @@
 -- The scanner's loop: what it has still to scan, with the bits that it has scanned, is what there is to scan.
-use mathlib.Core.Path.{_≡_, refl, sym, ap, subst, _∙_}
+use mathlib.Core.Path.{_≡_, sym, ap, subst, _∙_}
 use mathlib.Core.Bool.{true, false}
 use mathlib.Core.List.{List, [], _∷_}
-use Prim.Native.Nat.{ℕ, zero, suc, _+_, _-_, _*_, _%_, _^_, _<_, _≤_}
-use native.Mathlib.Nat.{mod-lt}
+use Prim.Native.Nat.{ℕ, suc, _+_, _*_, _%_, _^_, _<_, _≤_}
 use native.Mathlib.Numerals.{add-one}
 use native.Mathlib.Omega.{arith}
 use lib.ListN.{length, getD, take, drop, length-take, drop-of-length-le}
 use lib.Seq.{drop-cons, getD-take}
-use lib.Pow.{pow-mono, pow-add, pow-pos}
+use lib.Pow.{pow-mono, pow-add}
 use Rattle.mode.specs.Scan.{Scan, more, scan}
 use Rattle.mode.proofs.Scans.{scan-none}
 use Rattle.bits.specs.Bits.{bitsOf, digits}
 use Rattle.bits.proofs.Digits.{no-digits}
 use Rattle.bits.proofs.Packed.{length-bits, small-bits}
-use Rattle.line.specs.declared.search.Finding.{Finding}
 use Rattle.line.specs.Inner.{within, Found}
 use Rattle.line.proofs.Window.{scan-few, scan-hit, scan-miss}
 

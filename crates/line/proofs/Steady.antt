@@ -1,16 +1,14 @@
 -- A stretch as its functions give it: the record holds the state that the mode reaches, the bits laid are those that come out, and the keystream block
 -- stays the counter's unless the place comes back to 0, where it is made anew.
 use mathlib.Core.Path.{_≡_, refl, sym, ap, subst, _∙_}
-use mathlib.Core.Bool.{cond}
 use mathlib.Core.List.{List}
-use Prim.Native.Nat.{ℕ, _+_, _-_, _*_, _<_, _≤_, min}
+use Prim.Native.Nat.{ℕ, _+_, _-_, _<_, _≤_}
 use native.Mathlib.Omega.{arith}
 use lib.Dec.{ltb}
 use lib.ListN.{length, take}
 use Rattle.mode.specs.Rule.{after, outs}
 use Rattle.mode.proofs.Cases.{picked}
 use Rattle.bits.specs.Bits.{bitsOf, part, laid, wrote}
-use Rattle.bits.proofs.Lists.{Small}
 use Rattle.bits.proofs.Parts.{small-part, length-part, take-part}
 use Rattle.bits.proofs.Laid.{wrote-laid}
 use Rattle.aes.specs.Cipher.{aes128}
@@ -21,7 +19,7 @@ use Rattle.line.specs.declared.search.Finding.{Finding}
 use Rattle.line.specs.declared.cover.Covered.{Covered}
 use Rattle.line.specs.declared.stretch.Going.{Going}
 use Rattle.line.specs.View.{ruleOf, view, holding}
-use Rattle.line.specs.Inner.{Good, Found, Covers, movedOn, scannedTo, darkenedBy, Ready, Room, Ran, Stretched}
+use Rattle.line.specs.Inner.{Good, Found, Covers, movedOn, scannedTo, darkenedBy, Ready, Room, Stretched}
 use Rattle.line.proofs.Records.{bits-of, good-ran}
 use Rattle.line.proofs.Stretching.{scan-least, scan-within, scan-line, scan-out, dark-line, dark-out}
 

@@ -1,18 +1,18 @@
 -- A stretch in the record's numbers is the mode's: within a block the keystream is the block from the place on, the scanner stops where the mode finds
 -- the pattern, and what a blackout collects is packed behind what was collected before.
 use mathlib.Core.Path.{_≡_, sym, ap, subst, _∙_}
-use mathlib.Core.Bool.{Bool, false, not, cond}
+use mathlib.Core.Bool.{not, cond}
 use mathlib.Core.List.{List, [], _∷_, _++_}
-use Prim.Native.Nat.{ℕ, zero, suc, _+_, _-_, _*_, _/_, _%_, _^_, _<_, _≤_, min}
+use Prim.Native.Nat.{ℕ, zero, suc, _+_, _-_, _*_, _^_, _<_, _≤_, min}
 use native.Mathlib.Decide.{decLt}
 use native.Mathlib.Omega.{arith}
 use lib.Dec.{ltb}
-use lib.ListN.{length, take, drop, replicate, length-take, length-append}
+use lib.ListN.{length, take, length-take, length-append}
 use lib.Seq.{take-take, take-append-add, take-nil}
 use borrow.Author.Tests.{lt-ltb, le-ltb, ltb-true, ltb-false}
 use Rattle.mode.specs.Rule.{after, outs}
 use Rattle.mode.specs.Mode.{Generator, Settings, State}
-use Rattle.mode.specs.Blocks.{Position, blocks}
+use Rattle.mode.specs.Blocks.{Position}
 use Rattle.mode.specs.Words.{stream, nexts, plus}
 use Rattle.mode.specs.Scan.{Scan, scan}
 use Rattle.mode.proofs.Cases.{picked}
@@ -35,7 +35,7 @@ use Rattle.line.specs.declared.record.Line.{Line}
 use Rattle.line.specs.declared.search.Finding.{Finding}
 use Rattle.line.specs.declared.cover.Covered.{Covered}
 use Rattle.line.specs.View.{box, aes, settings, ruleOf, view, holding}
-use Rattle.line.specs.Tests.{dueIn, mostIn}
+use Rattle.line.specs.Tests.{mostIn}
 use Rattle.line.specs.Inner.{Good, within, Found, Covers, movedOn, scannedTo, darkenedBy}
 
 -- ---- the first bits of the first bits

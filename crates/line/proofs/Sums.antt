@@ -1,12 +1,12 @@
 -- The exclusive or of bytes is, bit by bit, the sum modulo 2.
 use mathlib.Core.Path.{_≡_, refl, sym, ap, _∙_}
 use mathlib.Core.List.{List, [], _∷_, _++_}
-use Prim.Native.Nat.{ℕ, zero, suc, _+_, _*_, _/_, _%_, _<_, _≤_}
+use Prim.Native.Nat.{ℕ, zero, suc, _+_, _/_, _%_, _<_, _≤_}
 use native.Mathlib.Omega.{arith}
 use native.Mathlib.Numerals.{add-one}
 use lib.Bits.{bitXor, differ, xor-step, xor-shr}
 use lib.ListN.{length, getD, take, drop, set, length-set}
-use lib.Seq.{take-suc, take-suc-set, drop-set-lt, drop-cons, take-all, getD-drop}
+use lib.Seq.{take-suc, take-suc-set, drop-set-lt, drop-cons, take-all}
 use Rattle.mode.specs.Words.{plus}
 use Rattle.mode.proofs.Streams.{plus-none, plus-one, plus-append}
 use Rattle.bits.specs.Bits.{bitsOf, digits}

@@ -1,16 +1,13 @@
 -- The window as a number with a count: what one line bit makes of it, over a pattern of any length n + 1. Bits that are fewer than the pattern's are not
 -- the pattern; as many are, where the numbers are equal.
-use mathlib.Core.Path.{_≡_, refl, sym, ap, _∙_}
+use mathlib.Core.Path.{_≡_, sym, ap, _∙_}
 use mathlib.Core.Bool.{true, false}
 use mathlib.Core.List.{List, [], _∷_, _++_}
 use Prim.Native.Nat.{ℕ, suc, _+_, _-_, _*_, _%_, _^_, _<_}
-use native.Mathlib.Decide.{ℕ-discrete}
 use native.Mathlib.Omega.{arith}
-use lib.Dec.{eqb}
 use lib.ListN.{length, drop, length-append}
-use borrow.Author.Tests.{eq-eqb, ne-eqb}
 use Rattle.mode.specs.Mode.{same, last}
-use Rattle.mode.specs.Scan.{Scan, more, scan}
+use Rattle.mode.specs.Scan.{more, scan}
 use Rattle.mode.proofs.Cases.{same-refl, same-false}
 use Rattle.mode.proofs.Scans.{scan-ends, scan-goes-on}
 use Rattle.bits.specs.Bits.{digits}

@@ -1,13 +1,12 @@
 -- A list of 4,096 numbers holds all ends of every file that is not refused, so that nothing is dropped.
 use mathlib.Core.Path.{_≡_}
 use mathlib.Core.List.{List}
-use Prim.Native.Nat.{ℕ, _+_, _*_, _<_, _≤_}
+use Prim.Native.Nat.{ℕ, _*_, _<_, _≤_}
 use native.Mathlib.Omega.{arith}
 use lib.ListN.{length}
 use borrow.Author.Tests.{ltb-false}
 use lib.Dec.{ltb}
 use Rattle.refusal.specs.declared.Answer.{Answer}
-use Rattle.bits.specs.Bits.{digits}
 use Rattle.bits.proofs.Digits.{length-digits}
 use Rattle.bits.proofs.Parts.{length-part}
 use Rattle.line.proofs.Records.{neither}

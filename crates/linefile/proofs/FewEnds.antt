@@ -1,12 +1,12 @@
 -- Each pattern takes its own 8 bits, and its blackout at least 128: so 136 bits for each but the last, whose blackout may lie past the end.
-use mathlib.Core.Path.{_≡_, refl, sym, ap, subst, _∙_}
-use mathlib.Core.Bool.{Bool, true, false, cond}
-use mathlib.Core.List.{List, [], _∷_, _++_}
+use mathlib.Core.Path.{_≡_, refl, ap, _∙_}
+use mathlib.Core.Bool.{Bool, true, false}
+use mathlib.Core.List.{List, [], _∷_}
 use Prim.Native.Nat.{ℕ, suc, _+_, _-_, _*_, _<_, _≤_, min}
-use native.Mathlib.Decide.{ℕ-discrete, decLt}
+use native.Mathlib.Decide.{ℕ-discrete}
 use native.Mathlib.Omega.{arith}
 use lib.ListN.{length, length-append, length-drop}
-use Rattle.mode.specs.Mode.{Generator, Settings, State, last, seen, found, gathered, step, opened}
+use Rattle.mode.specs.Mode.{Generator, Settings, State, last, seen, found, step, opened}
 use Rattle.mode.specs.Ends.{ends, patternEnds, silent}
 use Rattle.mode.proofs.Cases.{same-true}
 use Rattle.mode.proofs.Ends.{ended-scan, ended-dark, ends-none, ends-here, ends-later}

@@ -1,8 +1,7 @@
 -- A free line opened with settings that pass runs the bits of a file: neither the opening nor the run is refused.
-use mathlib.Core.Path.{_≡_, refl, ap, _∙_}
-use mathlib.Core.Bool.{Bool, true, false}
-use mathlib.Core.List.{List, []}
-use Prim.Native.Nat.{ℕ, _+_, _-_, _*_, _/_, _<_, _≤_}
+use mathlib.Core.Path.{_≡_, ap, _∙_}
+use mathlib.Core.List.{List}
+use Prim.Native.Nat.{ℕ, _+_, _-_, _*_, _<_, _≤_}
 use native.Mathlib.Omega.{arith}
 use lib.ListN.{length, take, drop, length-drop}
 use lib.Seq.{take-all}
@@ -11,9 +10,8 @@ use Rattle.bits.specs.Bits.{part, laid}
 use Rattle.bits.proofs.Parts.{part-from}
 use Rattle.refusal.specs.declared.Answer.{Answer}
 use Rattle.refusal.specs.Numbers.{outcome}
-use Rattle.line.specs.declared.record.Line.{Line}
 use Rattle.line.specs.declared.free.Reply.{Reply}
-use Rattle.line.specs.Free.{fresh, zeroLine, opening, written}
+use Rattle.line.specs.Free.{zeroLine, opening, written}
 use Rattle.line.specs.View.{ruleOf, view}
 use Rattle.line.specs.Inner.{Good}
 use Rattle.line.proofs.Passing.{opens, runs, good-fresh}

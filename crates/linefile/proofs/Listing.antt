@@ -1,14 +1,14 @@
 -- The scanner's loop: the ends found so far and those still to be found are all the ends, and so are the ones stored and those still to be stored.
 use mathlib.Core.Path.{_≡_, refl, sym, ap, _∙_}
-use mathlib.Core.Bool.{Bool, true, false}
+use mathlib.Core.Bool.{true, false}
 use mathlib.Core.List.{List, [], _∷_}
-use Prim.Native.Nat.{ℕ, zero, suc, _+_, _*_, _<_, _≤_}
+use Prim.Native.Nat.{ℕ, suc, _+_, _*_, _<_, _≤_}
 use native.Mathlib.Numerals.{add-one}
 use native.Mathlib.Omega.{arith}
 use lib.ListN.{length, getD, drop, set, length-set, drop-of-length-le}
 use lib.Seq.{drop-cons, sets}
 use Rattle.mode.specs.Mode.{State, step, opened}
-use Rattle.mode.specs.Ends.{silent, ended, ends, patternEnds}
+use Rattle.mode.specs.Ends.{silent, ends, patternEnds}
 use Rattle.mode.proofs.Ends.{scanner, ends-none, ends-here, ends-later, ends-bare}
 use Rattle.bits.specs.Bits.{bitsOf, part}
 use Rattle.bits.proofs.Digits.{no-digits}

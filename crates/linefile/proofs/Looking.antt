@@ -3,7 +3,6 @@ use mathlib.Core.Path.{_≡_, refl, sym, ap, subst, _∙_}
 use mathlib.Core.Bool.{true, false, cond}
 use mathlib.Core.List.{List, [], _∷_}
 use Prim.Native.Nat.{ℕ, suc, _+_, _-_, _*_, _%_, _^_, _<_, _≤_}
-use native.Mathlib.Nat.{mod-lt}
 use native.Mathlib.Numerals.{add-one}
 use native.Mathlib.Omega.{arith}
 use lib.Pow.{pow-mono, pow-add}
@@ -16,7 +15,6 @@ use Rattle.bits.specs.Bits.{digits}
 use Rattle.bits.proofs.Digits.{no-digits}
 use Rattle.line.proofs.Window.{scan-few, scan-hit, scan-miss}
 use Rattle.linefile.specs.declared.scanner.Scanner.{Scanner}
-use Rattle.linefile.specs.declared.scanner.Scanned.{Scanned}
 use Rattle.linefile.specs.Inner.{Steady, rules, held, Looked}
 
 module _ (pattern l : ℕ) (s : Scanner) (v : ℕ) (g : Steady s) where

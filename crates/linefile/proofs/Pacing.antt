@@ -3,7 +3,7 @@
 use mathlib.Core.Path.{_≡_, refl, sym, ap, subst, _∙_}
 use mathlib.Core.Bool.{false}
 use mathlib.Core.List.{List, [], _∷_, _++_, append-nil}
-use Prim.Native.Nat.{ℕ, zero, suc, _+_, _-_, _*_, _/_, _%_, _<_, _≤_}
+use Prim.Native.Nat.{ℕ, suc, _+_, _-_, _*_, _/_, _%_, _<_, _≤_}
 use native.Mathlib.Omega.{arith}
 use native.Mathlib.Nat.{suc-mul, div-add-mod', lt-of-mul-lt-mul-right, mul-le-mul-right}
 use lib.ListN.{length, length-append}
@@ -12,12 +12,12 @@ use Rattle.mode.specs.Mode.{State}
 use Rattle.mode.specs.Blocks.{Position}
 use Rattle.mode.proofs.Steps.{blackout}
 use Rattle.pace.specs.Tick.{Held, hold, opened, written, ticked, closing}
-use Rattle.pace.specs.Ticks.{joined, Each, ticks, sent, least-hold}
+use Rattle.pace.specs.Ticks.{joined, Each, ticks, sent}
 use Rattle.pace.proofs.More.{ticks-more, sent-more}
 use Rattle.pace.proofs.Ticks.{hold-is-large, no-tick-refused, sent-count, closing-sends-the-rest}
-use Rattle.bits.specs.Bits.{bitsOf, part, laid}
-use lib.Seq.{take-at, drop-at}
-use Rattle.bits.proofs.Lists.{Small, small-take, small-drop}
+use Rattle.bits.specs.Bits.{part, laid}
+use lib.Seq.{take-at}
+use Rattle.bits.proofs.Lists.{Small, small-take}
 use Rattle.bits.proofs.Parts.{small-part, length-part}
 use Rattle.bits.proofs.Laid.{length-laid, laid-laid, laid-nothing}
 use Rattle.line.proofs.Passing.{good-fresh}
@@ -117,9 +117,6 @@ module _ (c : Settings) (s : List ℕ) (from n : ℕ) (o₀ : List ℕ) where
       gone-small : Small (gone k)
       gone-small = rw (← take-at (gone k) (closing R (held k)) (length (gone k)) refl, whole) (small-take (length (gone k)) _ (small-outs (aes (box (lineOf c))) (settings (lineOf c)) start (part s from (k * D))))
 
-      last-small : Small (closing R (held k))
-      last-small = rw (← drop-at (gone k) (closing R (held k)) (length (gone k)) refl, whole) (small-drop _ (length (gone k)) (small-outs (aes (box (lineOf c))) (settings (lineOf c)) start (part s from (k * D))))
-
     -- the opening is done, and no tick has been
     pub pacing : (r : Reply) → length (c .key) ≡ 16 → length (c .iv) ≡ 16 → r ≡ opening (c .key) (c .iv) (c .pattern) (c .l) (c .receiving) D
         → Pacing o₀ (record { line = r .line; at = 0 }) 0
@@ -180,11 +177,6 @@ module _ (c : Settings) (s : List ℕ) (from n : ℕ) (o₀ : List ℕ) where
 
         next-count : length (gone (a .k)) + length (written R D (held (a .k))) ≤ n
         next-count = omega (arith, ap length gone-next ∙ length-append (gone (a .k)) (written R D (held (a .k))), gone-count (suc (a .k)) enough, enough)
-
-        leaves-small : Small (leavingFrom (g .line))
-        leaves-small =
-            rw (leaves, ← drop-at (gone (a .k)) (written R D (held (a .k))) (length (gone (a .k))) refl, ← gone-next)
-            (small-drop (gone (suc (a .k))) (length (gone (a .k))) (gone-small (suc (a .k)) enough))
 
         fits : Roomy o (g .at) (leavingFrom (g .line))
         fits =

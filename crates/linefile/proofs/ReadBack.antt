@@ -1,6 +1,6 @@
 -- What a writer wrote is read back: the four numbers stand before both areas, no byte of one area lies in the other, and so each is read where it was stored.
 use mathlib.Core.Path.{_≡_, refl, sym, ap, _∙_}
-use mathlib.Core.Bool.{Bool, true, false, not, cond, _&&_, _||_}
+use mathlib.Core.Bool.{Bool, true, false, not, cond, _&&_}
 use mathlib.Core.Logic.{_⊎_, inl, inr}
 use mathlib.Core.List.{List, [], _∷_, _++_}
 use Prim.Native.Nat.{ℕ, _+_, _-_, _*_, _/_, _%_, _<_, _≤_}
@@ -9,15 +9,14 @@ use native.Mathlib.Decide.{decLt}
 use lib.Dec.{eqb, ltb}
 use lib.ListN.{length, getD, take, drop, replicate, length-append, length-replicate, List·getD-append}
 use lib.Seq.{sets, length-sets, getD-append-add}
-use borrow.Author.Tests.{lt-ltb, le-ltb, eq-eqb, ne-eqb}
+use borrow.Author.Tests.{le-ltb, eq-eqb}
 use Rattle.refusal.specs.declared.Answer.{Answer}
-use Rattle.bits.specs.Bits.{pack, part}
+use Rattle.bits.specs.Bits.{pack}
 use Rattle.bits.proofs.Lists.{Small, zeros}
 use Rattle.bits.proofs.Packed.{length-pack}
 use Rattle.bits.proofs.Parts.{packed-part}
 use Rattle.linefile.specs.declared.reader.Settings.{Settings}
-use Rattle.linefile.specs.declared.reader.Contents.{Contents}
-use Rattle.linefile.specs.File.{numberAt, statedLength, countOf, bitsAt, settingsAt, bytesFor, outside, overlapping, settingsOf, lOf, directionOf, dOf, ragged, malformed, blackoutRefused, rateRefused, readAnswer, contents, bitsOfFile}
+use Rattle.linefile.specs.File.{numberAt, statedLength, countOf, bitsAt, settingsAt, bytesFor, outside, overlapping, settingsOf, lOf, directionOf, dOf, ragged, malformed, rateRefused, readAnswer, contents, bitsOfFile}
 use Rattle.linefile.specs.Writer.{word, settingBytes, fileOf, Writable}
 use Rattle.linefile.proofs.Areas.{says}
 use Rattle.linefile.proofs.Tests.{nor, not-first, not-second}

@@ -1,5 +1,5 @@
 -- What a file that is not refused gives the runs of its line, and what is answered after them.
-use mathlib.Core.Path.{_≡_, refl, sym, ap, subst, _∙_}
+use mathlib.Core.Path.{_≡_, refl, sym, ap, subst}
 use mathlib.Core.Bool.{Bool, true, false, not, _&&_, true≢false}
 use mathlib.Core.List.{List}
 use Prim.Native.Nat.{ℕ, _+_, _*_, _/_, _%_, _<_, _≤_}
@@ -11,12 +11,9 @@ use Rattle.mode.specs.Rule.{outs}
 use Rattle.bits.specs.Bits.{part, laid}
 use Rattle.refusal.specs.declared.Refusal.{Refusal}
 use Rattle.refusal.specs.declared.Answer.{Answer}
-use Rattle.refusal.specs.Numbers.{outcome}
 use Rattle.line.specs.View.{ruleOf, view}
 use Rattle.line.proofs.Records.{neither}
-use Rattle.linefile.specs.declared.reader.Settings.{Settings}
 use Rattle.linefile.specs.declared.reader.Contents.{Contents}
-use Rattle.linefile.specs.declared.running.Ran.{Ran}
 use Rattle.linefile.specs.File.{bitsAt, countOf, bytesFor, lOf, dOf, settingsOf, readAnswer, contents}
 use Rattle.linefile.specs.Run.{lineOf, ranAnswer, ran, resultLeft}
 use Rattle.linefile.specs.Paces.{Paceable}

@@ -4,8 +4,8 @@ use mathlib.Core.Logic.{_⊎_, inl, inr}
 use mathlib.Core.List.{List, [], _∷_}
 use Prim.Native.Nat.{ℕ, zero, suc, _+_, _<_, _≤_}
 use native.Mathlib.Omega.{arith}
-use lib.ListN.{length, getD, take, drop, set, length-set, length-take, length-drop, length-append}
-use lib.Seq.{sets, length-sets, getD-set-same, getD-set-other, getD-take, getD-drop, ext-getD}
+use lib.ListN.{length, getD, take, drop, set, length-set, length-take, length-drop}
+use lib.Seq.{sets, getD-set-same, getD-set-other, getD-take, getD-drop, ext-getD}
 
 pub stored-outside : (vs l : List ℕ) (i k : ℕ) → (k < i) ⊎ (i + length vs ≤ k) → getD (sets l i vs) k 0 ≡ getD l k 0
 stored-outside [] l i k h = refl

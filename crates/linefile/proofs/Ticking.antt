@@ -1,30 +1,25 @@
 -- A tick, or closing, of a line that passes the tests for 9 is not refused, and what it writes is read back from where it wrote it.
-use mathlib.Core.Path.{_≡_, refl, sym, ap, _∙_}
+use mathlib.Core.Path.{_≡_, ap, _∙_}
 use mathlib.Core.List.{List, []}
-use Prim.Native.Nat.{ℕ, _+_, _-_, _*_, _/_, _<_, _≤_}
+use Prim.Native.Nat.{ℕ, _+_, _*_, _≤_}
 use native.Mathlib.Omega.{arith}
-use lib.ListN.{length, length-take}
+use lib.ListN.{length}
 use Rattle.bits.specs.Bits.{pack, part, laid}
-use Rattle.bits.proofs.Lists.{Small, small-take, small-append}
+use Rattle.bits.proofs.Lists.{Small}
 use Rattle.bits.proofs.Packed.{length-pack}
-use Rattle.bits.proofs.Parts.{small-part}
 use Rattle.bits.proofs.Laid.{length-laid, part-laid}
 use Rattle.pace.specs.Tick.{ticked}
-use Rattle.pace.proofs.Kept.{length-closing}
-use Rattle.mode.specs.Rule.{outs}
-use Rattle.line.proofs.Running.{small-outs}
 use Rattle.paced.proofs.Appending.{bits-read}
-use Rattle.line.specs.View.{aes, box, settings, ruleOf, view}
+use Rattle.line.specs.View.{ruleOf}
 use Rattle.paced.specs.declared.record.Paced.{Paced}
 use Rattle.linefile.specs.declared.running.Going.{Going}
 use Rattle.linefile.specs.Paces.{Roomy, Ticks, tickedOn, Closes}
-use Rattle.paced.specs.declared.answer.Ticked.{Ticked}
 use Rattle.paced.specs.declared.answer.Moved.{Moved}
-use Rattle.paced.specs.Answers.{outcome, bitsIn}
+use Rattle.paced.specs.Answers.{bitsIn}
 use Rattle.paced.proofs.Passing.{small-leaving, few-leaving, ticks, ticks-line, ticks-write, small-last, few-last, closes, closes-write}
 use Rattle.paced.specs.View.{viewed, keeping}
-use Rattle.paced.specs.Ticking.{leavingFrom, heldAfter, tickAnswer, ticking, tickWrites}
-use Rattle.paced.specs.Closing.{lastFrom, closeAnswer, closing, closeWrites}
+use Rattle.paced.specs.Ticking.{leavingFrom, ticking, tickWrites}
+use Rattle.paced.specs.Closing.{lastFrom, closing, closeWrites}
 
 -- bits r that lie at the start of y, as the call left it in place of z, can be laid after the first `at` bits of o
 module _ (o z y r : List ℕ) (at n : ℕ) (ey : y ≡ laid z 0 r) (en : n ≡ length r) (small : Small r) (fits : length r ≤ 8 * length z) (w : Roomy o at r) where

@@ -1,6 +1,6 @@
 -- What the functions inside tell each other. Nobody need believe this file: the public contracts cite nothing of it.
 use mathlib.Core.Path.{_≡_}
-use mathlib.Core.Bool.{Bool, true, false}
+use mathlib.Core.Bool.{true}
 use mathlib.Core.List.{[]}
 use Prim.Native.Nat.{ℕ, _*_, _^_, _<_, _≤_}
 use Rattle.mode.specs.Mode.{Settings, State, step}

@@ -2,14 +2,14 @@
 -- alone; a receiver turns back what a sender made.
 use mathlib.Core.Path.{_≡_, refl, sym, ap, _∙_}
 use mathlib.Core.Logic.{_⊎_, inl, inr}
-use mathlib.Core.Bool.{Bool, true, false, cond}
+use mathlib.Core.Bool.{Bool, true, false}
 use mathlib.Core.List.{List, [], _∷_, _++_}
 use Prim.Native.Nat.{ℕ, zero, suc, _+_, _-_, _*_, _%_, _<_, _≤_, min}
 use native.Mathlib.Omega.{arith}
-use lib.ListN.{length, take, drop, length-append, length-take}
-use Rattle.mode.specs.Rule.{Rule, Blackout, after, outs}
+use lib.ListN.{length, length-append, length-take}
+use Rattle.mode.specs.Rule.{Blackout, after, outs}
 use Rattle.mode.specs.Mode.{Generator, Settings, State, stage, last, out, line, seen, found, gathered, step, rule, fed, lines, opened, toward, sends, receives, Bits}
-use Rattle.mode.specs.Words.{due, most, Within}
+use Rattle.mode.specs.Words.{due, Within}
 use Rattle.mode.proofs.Cases.{picked, staged, length-last, bits-drop, bits-take, bits-append}
 use Rattle.mode.proofs.Runs.{after-append, outs-append}
 
@@ -81,9 +81,6 @@ module _ (G : Generator) (S : Settings) where
   }
 
   -- ---- the ranges
-
-  pub within-opened : (g : G .State) → Within S (opened g)
-  within-opened g = record { left-in = omega arith; collected-is = refl; window-in = omega arith; collected-bits = tt; window-bits = tt }
 
   pub within-step : (s : State (G .State)) (v : ℕ) → v < 2 → Within S s → Within S (step G S s v)
   unfolding step

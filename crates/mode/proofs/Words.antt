@@ -9,7 +9,7 @@ use Rattle.mode.specs.Rule.{after, outs}
 use Rattle.mode.specs.Mode.{Generator, Settings, State, out, line, found, gathered, step, rule, fed, opened, receives}
 use Rattle.mode.specs.Words.{stream, plus, Unset, Finds}
 use Rattle.mode.proofs.Cases.{picked, staged, take-take-append}
-use Rattle.mode.proofs.Steps.{step-looks, step-found, step-last, step-dark, left-counts, fed-append, lines-alone, fed-toward, received-lines}
+use Rattle.mode.proofs.Steps.{step-found, step-last, step-dark, left-counts, fed-append, lines-alone, fed-toward, received-lines}
 
 module _ (G : Generator) (S : Settings) where
   -- ---- the generator is set to what is collected

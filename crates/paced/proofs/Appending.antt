@@ -1,15 +1,12 @@
 -- Bits appended to an output: the writer is lent the part from the current byte on, and bits laid after others are laid as one with them.
-use mathlib.Core.Path.{_≡_, refl, sym, ap, subst, _∙_}
-use mathlib.Core.List.{List, [], _∷_, _++_, append-nil}
-use Prim.Native.Nat.{ℕ, _+_, _-_, _*_, _/_, _%_, _≤_, _<_}
+use mathlib.Core.Path.{_≡_, sym, ap, _∙_}
+use mathlib.Core.List.{List, [], _++_, append-nil}
+use Prim.Native.Nat.{ℕ, _+_, _-_, _*_, _/_, _%_, _≤_}
 use native.Mathlib.Omega.{arith}
 use lib.ListN.{length, take, drop, length-drop, drop-of-length-le}
 use lib.Seq.{take-all}
-use Rattle.mode.specs.Rule.{after, outs}
-use Rattle.mode.proofs.Runs.{length-outs}
 use Rattle.bits.specs.Bits.{bitsOf, pack, part, laid, wrote}
-use Rattle.bits.proofs.Lists.{Small, Bytes}
-use Rattle.bits.proofs.Packed.{bits-pack}
+use Rattle.bits.proofs.Lists.{Bytes}
 use Rattle.bits.proofs.Parts.{small-part, length-part, part-split, part-start, pack-part}
 use Rattle.bits.proofs.Laid.{laid-from, laid-laid, length-laid, wrote-laid}
 

@@ -1,12 +1,10 @@
 -- A block of bits through the line: its run is never refused, and what comes out for the bits that were read goes to their place.
-use mathlib.Core.Path.{_≡_, refl, sym, ap, subst, _∙_}
+use mathlib.Core.Path.{_≡_, sym, ap, subst, _∙_}
 use mathlib.Core.List.{List, [], _++_}
-use Prim.Native.Nat.{ℕ, _+_, _-_, _*_, _/_, _≤_, _<_}
+use Prim.Native.Nat.{ℕ, _+_, _*_, _≤_, _<_}
 use native.Mathlib.Omega.{arith}
 use lib.ListN.{length, take, drop, take-append-drop}
-use lib.Dec.{ltb}
-use borrow.Author.Tests.{le-ltb, lt-leb, le-leb}
-use mathlib.Core.Bool.{false}
+use borrow.Author.Tests.{lt-leb, le-leb}
 use Rattle.mode.specs.Rule.{after, outs}
 use Rattle.mode.proofs.Runs.{length-outs}
 use Rattle.bits.specs.Bits.{bitsOf, pack, part, laid}
@@ -19,14 +17,12 @@ use Rattle.refusal.specs.Numbers.{outcome}
 use Rattle.line.specs.declared.record.Line.{Line}
 use Rattle.line.specs.declared.free.Reply.{Reply}
 use Rattle.line.specs.Free.{runAnswer, running, written}
-use Rattle.line.specs.Tests.{faulty}
 use Rattle.line.specs.View.{box, aes, settings, ruleOf, view, holding}
 use Rattle.line.specs.Inner.{Good, Ran}
 use Rattle.line.proofs.Passing.{runs}
 use Rattle.line.proofs.Records.{passes, holds, bits-of, good-ran}
 use Rattle.line.proofs.Running.{small-outs, going, going-ready}
 use Rattle.pace.specs.Tick.{width, moves}
-use Rattle.paced.specs.declared.ticking.Move.{Move}
 use Rattle.paced.specs.Inner.{Passes}
 use Rattle.paced.proofs.Appending.{bits-read}
 

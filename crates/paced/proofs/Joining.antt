@@ -1,9 +1,9 @@
 -- The queue as packed bits. Bytes made of few enough bits have these bits and then zeros, so what leaves, joins or changes there is said on the bits.
-use mathlib.Core.Path.{_≡_, refl, sym, ap, subst, _∙_}
-use mathlib.Core.List.{List, [], _∷_, _++_, append-assoc}
-use Prim.Native.Nat.{ℕ, _+_, _-_, _*_, _/_, _%_, _≤_, _<_}
+use mathlib.Core.Path.{_≡_, sym, ap, subst, _∙_}
+use mathlib.Core.List.{List, [], _++_, append-assoc}
+use Prim.Native.Nat.{ℕ, _+_, _-_, _*_, _/_, _%_, _≤_}
 use native.Mathlib.Omega.{arith}
-use lib.ListN.{length, getD, take, drop, length-append, length-take, length-drop, take-append-drop}
+use lib.ListN.{length, take, drop, length-append, length-drop, take-append-drop}
 use lib.Seq.{drop-drop, drop-at, length-take-le}
 use Rattle.bits.specs.Bits.{bitsOf, pack, part, laid, wrote}
 use Rattle.bits.proofs.Lists.{Small, Bytes, small-take, bytes-drop}

@@ -1,31 +1,28 @@
 -- A tick on the packed queue is the tick: the ready bits that stay, the waiting bits and the input stand one after the other in the queue, and the bits that pass
 -- are the first of the last two.
-use mathlib.Core.Path.{_≡_, sym, ap, subst, _∙_}
-use mathlib.Core.Logic.{_⊎_, ⊎-elim}
+use mathlib.Core.Path.{_≡_, sym, ap, _∙_}
+use mathlib.Core.Logic.{⊎-elim}
 use mathlib.Core.List.{List, _++_, append-assoc}
-use Prim.Native.Nat.{ℕ, _+_, _-_, _*_, _≤_, _<_}
+use Prim.Native.Nat.{ℕ, _+_, _-_, _*_, _≤_}
 use native.Mathlib.Omega.{arith}
-use lib.ListN.{length, take, drop, length-append, length-take, length-drop}
+use lib.ListN.{length, take, drop, length-append, length-drop}
 use lib.Seq.{take-at, drop-at, drop-drop, length-take-le}
 use Rattle.mode.specs.Rule.{Rule, after, outs}
-use Rattle.mode.specs.Mode.{State}
-use Rattle.mode.specs.Blocks.{Position}
 use Rattle.mode.proofs.Runs.{length-outs}
 use Rattle.bits.specs.Bits.{bitsOf, pack, part}
 use Rattle.bits.proofs.Lists.{Small, small-append}
 use Rattle.bits.proofs.Packed.{pack-past}
 use Rattle.bits.proofs.Parts.{small-part, length-part, take-part, part-drop, part-split, part-pack}
-use Rattle.pace.specs.Tick.{Held, hold, width, moves, leaving, written, moving, passing, ticked}
+use Rattle.pace.specs.Tick.{Held, width, moves, moving}
 use Rattle.pace.proofs.Moves.{moves-what-waits, moves-cases}
 use Rattle.pace.proofs.Kept.{ticked-is}
-use Rattle.line.specs.declared.record.Line.{Line}
 use Rattle.line.specs.View.{ruleOf, view, holding}
 use Rattle.paced.specs.declared.record.Paced.{Paced}
 use Rattle.paced.specs.declared.answer.Ticked.{Ticked}
 use Rattle.paced.specs.declared.answer.Moved.{Moved}
 use Rattle.paced.specs.declared.ticking.Move.{Move}
 use Rattle.paced.specs.View.{viewed, keeping}
-use Rattle.paced.specs.Ticking.{leavingFrom, heldAfter}
+use Rattle.paced.specs.Ticking.{leavingFrom}
 use Rattle.paced.specs.Inner.{Open, Passes, tickedTo}
 use Rattle.paced.proofs.Records.{few-d, length-queue, leaving-in, counts-in, held-in}
 

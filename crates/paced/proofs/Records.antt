@@ -1,8 +1,7 @@
 -- Records that pass the tests for 9: what the tests say in numbers, and what there is to say of these.
-use mathlib.Core.Path.{_≡_, refl, sym, ap, subst, _∙_}
-use mathlib.Core.Bool.{Bool, true, false, not, cond, _||_, true≢false}
-use mathlib.Core.List.{List}
-use Prim.Native.Nat.{ℕ, zero, suc, _+_, _-_, _*_, _/_, _^_, _≤_, _<_}
+use mathlib.Core.Path.{_≡_, refl, sym, ap, _∙_}
+use mathlib.Core.Bool.{true, false, not, true≢false}
+use Prim.Native.Nat.{ℕ, zero, suc, _+_, _-_, _*_, _≤_, _<_}
 use native.Mathlib.Decide.{decLt}
 use native.Mathlib.Nat.{mul-le-mul-right}
 use native.Mathlib.Omega.{arith}
@@ -15,12 +14,10 @@ use Rattle.bits.proofs.Lists.{Bytes}
 use Rattle.bits.proofs.Blank.{blank-pack, pack-blank}
 use Rattle.bits.proofs.Parts.{part-start}
 use Rattle.pace.specs.Tick.{hold}
-use Rattle.line.specs.declared.record.Line.{Line}
 use Rattle.line.specs.Tests.{faulty as lineFaulty}
-use Rattle.line.specs.Inner.{Good}
 use Rattle.line.proofs.Records.{neither, good-of, passes}
 use Rattle.paced.specs.declared.record.Paced.{Paced}
-use Rattle.paced.specs.Tests.{tooFast, unbalanced, leftover, miscounted, faulty}
+use Rattle.paced.specs.Tests.{tooFast, unbalanced, miscounted, faulty}
 use Rattle.paced.specs.Inner.{Open}
 use Rattle.paced.proofs.Joining.{length-packed}
 

@@ -1,13 +1,13 @@
 -- Closing: the ready bits laid in the output, and the waiting bits, passed, laid after them, are laid as one.
-use mathlib.Core.Path.{_≡_, refl, sym, ap, subst, _∙_}
+use mathlib.Core.Path.{_≡_, sym, ap, _∙_}
 use mathlib.Core.Bool.{true}
 use mathlib.Core.List.{List, [], _++_, append-nil}
-use Prim.Native.Nat.{ℕ, _+_, _-_, _*_, _≤_}
+use Prim.Native.Nat.{ℕ, _+_, _*_, _≤_}
 use native.Mathlib.Omega.{arith}
 use lib.ListN.{length, replicate, length-append}
 use Rattle.mode.specs.Rule.{Rule, after, outs}
 use Rattle.mode.proofs.Runs.{length-outs}
-use Rattle.bits.specs.Bits.{bitsOf, pack, part, laid}
+use Rattle.bits.specs.Bits.{part, laid}
 use Rattle.bits.proofs.Packed.{pack-none}
 use Rattle.bits.proofs.Parts.{small-part, length-part}
 use Rattle.bits.proofs.Laid.{laid-laid}

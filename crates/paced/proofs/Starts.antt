@@ -3,9 +3,6 @@ use mathlib.Core.Path.{_≡_, refl, sym, ap, _∙_}
 use mathlib.Core.Bool.{Bool, true, false}
 use mathlib.Core.List.{List}
 use Prim.Native.Nat.{ℕ, _≤_, _<_}
-use native.Mathlib.Omega.{arith}
-use lib.ListN.{length, replicate}
-use Rattle.bits.specs.Bits.{pack}
 use Rattle.bits.proofs.Packed.{pack-none}
 use Rattle.pace.specs.Tick.{hold}
 use Rattle.refusal.specs.declared.Refusal.{Refusal}
@@ -14,12 +11,10 @@ use Rattle.refusal.specs.Numbers.{outcome}
 use Rattle.line.specs.declared.record.Line.{Line}
 use Rattle.line.specs.declared.free.Reply.{Reply as LineReply}
 use Rattle.line.specs.Free.{openAnswer, fresh, zeroLine, opening as lineOpening}
-use Rattle.line.specs.View.{view, holding}
 use Rattle.line.specs.Inner.{Good}
 use Rattle.line.proofs.Passing.{opened-of, good-fresh}
 use Rattle.line.proofs.Records.{holds}
 use Rattle.paced.specs.declared.record.Paced.{Paced}
-use Rattle.paced.specs.declared.answer.Reply.{Reply}
 use Rattle.paced.specs.Tests.{tooFast}
 use Rattle.paced.specs.Opening.{pacedAnswer, empty, freshPaced, zeroPaced, opening}
 use Rattle.paced.proofs.Records.{rate-low, slow-of}

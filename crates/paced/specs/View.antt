@@ -1,11 +1,9 @@
 -- A paced line's record as the tick sees it: what it holds; and the record that holds so much.
-use Prim.Native.Nat.{ℕ}
 use mathlib.Core.Bool.{true}
-use mathlib.Core.List.{List, _++_}
-use lib.ListN.{length, take, drop}
-use Rattle.bits.specs.Bits.{bitsOf, pack, part}
+use mathlib.Core.List.{_++_}
+use lib.ListN.{length}
+use Rattle.bits.specs.Bits.{pack, part}
 use Rattle.pace.specs.Tick.{Held}
-use Rattle.line.specs.declared.record.Line.{Line}
 use Rattle.line.specs.View.{ruleOf, view, holding}
 use Rattle.paced.specs.declared.record.Paced.{Paced}
 

@@ -1,14 +1,12 @@
 -- Demand 2 for the free line, in one call or many: what comes out is the mode with FIPS 197's AES-128 over the counter; an end opened the same but for
 -- direction turns it back; and no record reached from an opening meets a test for 9.
 use mathlib.Core.Path.{_≡_, refl, sym, ap, subst, _∙_}
-use mathlib.Core.Bool.{Bool, true, false, not, _||_}
+use mathlib.Core.Bool.{Bool, true, false}
 use mathlib.Core.List.{List, [], _∷_, _++_}
 use Prim.Native.Nat.{ℕ, _+_, _*_, _/_, _<_, _≤_}
 use native.Mathlib.Omega.{arith}
-use lib.Dec.{ltb}
-use lib.ListN.{length, take, drop, replicate}
+use lib.ListN.{length, take, drop}
 use borrow.Author.Tests.{ltb-false}
-use Rattle.refusal.specs.declared.Refusal.{Refusal}
 use Rattle.refusal.specs.declared.Answer.{Answer}
 use Rattle.refusal.specs.Numbers.{outcome}
 use Rattle.aes.specs.Cipher.{aes128}
@@ -23,10 +21,9 @@ use Rattle.mode.specs.Mode.{State, Bits}
 use Rattle.mode.specs.Blocks.{Position, keystream}
 use Rattle.mode.specs.Words.{plus, Unset}
 use Rattle.mode.proofs.Runs.{after-append, outs-append, length-outs}
-use Rattle.mode.proofs.Steps.{turns-back, same-state}
+use Rattle.mode.proofs.Steps.{turns-back}
 use Rattle.mode.proofs.Blocks.{blocks-in-between}
 use Rattle.line.specs.declared.record.Line.{Line}
-use Rattle.line.specs.declared.free.Reply.{Reply}
 use Rattle.line.specs.View.{box, aes, settings, ruleOf, view, holding}
 use Rattle.line.specs.Tests.{faulty}
 use Rattle.line.specs.Free.{fresh, zeroLine, opening, runAnswer, running, written}

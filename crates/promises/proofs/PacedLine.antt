@@ -24,7 +24,7 @@ use Rattle.line.specs.Inner.{Good}
 use Rattle.line.proofs.Records.{bits-of}
 use Rattle.line.proofs.Passing.{good-fresh}
 use Rattle.pace.specs.Tick.{hold, Held, opened, written}
-use Rattle.pace.specs.Ticks.{ticks, sent, joined, Each}
+use Rattle.pace.specs.Ticks.{sent, joined, Each}
 use Rattle.pace.proofs.Ticks.{sent-is-the-first, hold-is-large}
 use Rattle.pace.proofs.More.{joined-more, each-more, ticks-more}
 use Rattle.paced.specs.declared.record.Paced.{Paced}
@@ -32,7 +32,6 @@ use Rattle.paced.specs.Answers.{numberOf, bitsIn}
 use Rattle.paced.specs.Tests.{faulty}
 use Rattle.paced.specs.Ticking.{tickAnswer, ticking}
 use Rattle.paced.specs.Closing.{closeAnswer, closing, closeWrites}
-use Rattle.paced.specs.declared.answer.Reply.{Reply}
 use Rattle.paced.specs.Opening.{freshPaced, zeroPaced, opening}
 use Rattle.paced.proofs.Passing.{opens, ticks as tick-answers, ticks-line, ticks-read, closes-line, closes-read, short-ticks, short-closes, closed-ticks, closed-closes}
 use Rattle.paced.proofs.Reached.{heldBy, reached, viewed-reached, tick-reached, reached-passes as record-passes, closed-reached-passes, closing-sends as last-sends}

@@ -1,5 +1,5 @@
 -- Demand 1 for the paced line: opening, ticks and closing try 01's tests in 01's order; a refused call keeps what it was given, with counts of 0.
-use mathlib.Core.Path.{_≡_, refl, sym, ap, _∙_}
+use mathlib.Core.Path.{_≡_, refl, ap, _∙_}
 use mathlib.Core.Bool.{Bool, true, false, cond}
 use mathlib.Core.List.{List, [], _∷_, _++_}
 use Prim.Native.Nat.{ℕ, _+_, _/_}
@@ -10,7 +10,6 @@ use Rattle.refusal.specs.declared.Answer.{Answer}
 use Rattle.refusal.specs.Numbers.{outcome as answered}
 use Rattle.bits.specs.Bits.{laid}
 use Rattle.pace.specs.Tick.{closed}
-use Rattle.line.specs.Free.{openAnswer}
 use Rattle.line.specs.View.{ruleOf}
 use Rattle.line.specs.Tests.{faulty as lineFaulty}
 use Rattle.paced.specs.declared.record.Paced.{Paced}

@@ -1,20 +1,17 @@
 -- The table of points, from the definitions: by computation but for P8, which holds for every V since the blackout's bits become the counter.
 use mathlib.Core.Path.{_≡_, refl, ap, subst, _∙_}
 use mathlib.Core.Bool.{true}
-use mathlib.Core.List.{List, [], _∷_, _++_}
+use mathlib.Core.List.{List, [], _∷_}
 use Prim.Native.Nat.{ℕ, _*_}
 use native.Mathlib.Omega.{arith}
 use lib.ListN.{length, take, length-take}
 use lib.Seq.{take-all}
-use Rattle.aes.specs.Field.{xtime, low, product, _•_}
 use Rattle.aes.proofs.Examples.{product-example, s-box-example, s-box-of-zero}
 use Rattle.bits.specs.Bits.{bitsOf, pack, digits}
 use Rattle.bits.proofs.Lists.{Bytes}
 use Rattle.bits.proofs.Packed.{length-bits, pack-bits}
-use Rattle.counter.specs.Counter.{feedback, stepped, steppedBytes}
 use Rattle.counter.proofs.Points.{p1-to-p5}
-use Rattle.mode.specs.Mode.{State, step, same, opened}
-use Rattle.mode.specs.Blocks.{Position}
+use Rattle.mode.specs.Mode.{step, same, opened}
 use Rattle.mode.proofs.Steps.{blackout}
 use Rattle.mode.proofs.Words.{finds-sets, received}
 use Rattle.line.specs.View.{box, aes, settings, ruleOf, view}

@@ -1,14 +1,14 @@
 -- The first 58 bytes of a record, there and back: what was written is read as it was, and what was read is written as it was, since each
 -- field has bytes of its own and no byte is left over. Assumes nothing.
-use mathlib.Core.Path.{_≡_, refl, sym, ap, _∙_}
+use mathlib.Core.Path.{_≡_, refl, ap}
 use mathlib.Core.List.{List, [], _∷_, _++_, append-assoc}
-use Prim.Native.Nat.{ℕ, _+_, _*_, _/_, _%_, _≤_, _<_}
+use Prim.Native.Nat.{ℕ, _+_, _*_, _≤_, _<_}
 use native.Mathlib.Omega.{arith}
-use lib.ListN.{length, getD, take, drop, length-append}
+use lib.ListN.{length, getD, drop, length-append}
 use Rattle.bits.proofs.Lists.{Bytes}
 use Rattle.line.specs.declared.record.Line.{Line}
 use Rattle.tisarqluk.specs.FreeRecord.{settingsOf, numbersOf, lineBytes, lineIn}
-use Rattle.tisarqluk.proofs.Places.{here, then, at, split, each, split-each, pair-high, pair-low, flag-eqb, eqb-flag}
+use Rattle.tisarqluk.proofs.Places.{here, then, at, split, split-each, pair-high, pair-low, flag-eqb, eqb-flag}
 
 -- what a record's type has: the arrays' lengths, and the bound of the 16-bit number
 pub record Shaped (s : Line) : Type 0 where

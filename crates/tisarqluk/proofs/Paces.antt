@@ -1,14 +1,13 @@
 -- A paced line's record, there and back, as the first 58 bytes of it are. Assumes nothing.
-use mathlib.Core.Path.{_≡_, refl, sym, ap, _∙_}
-use mathlib.Core.List.{List, [], _∷_, _++_, append-assoc}
-use Prim.Native.Nat.{ℕ, _+_, _*_, _/_, _%_, _≤_, _<_}
+use mathlib.Core.Path.{_≡_, refl, ap, _∙_}
+use mathlib.Core.List.{List, _++_, append-assoc}
+use Prim.Native.Nat.{ℕ, _+_, _*_, _≤_, _<_}
 use native.Mathlib.Omega.{arith}
 use mathlib.Core.Bool.{true}
 use lib.Dec.{eqb, leb}
-use lib.ListN.{length, getD, take, drop, length-append}
+use lib.ListN.{length, getD, drop, length-append}
 use lib.Seq.{drop-at}
 use Rattle.bits.proofs.Lists.{Bytes}
-use Rattle.line.specs.declared.record.Line.{Line}
 use Rattle.paced.specs.declared.record.Paced.{Paced}
 use Rattle.tisarqluk.specs.FreeRecord.{lineBytes, lineIn}
 use Rattle.tisarqluk.specs.PacedRecord.{countsOf, pacedBytes, pacedIn}

@@ -1,7 +1,7 @@
 -- `aes::block` meets its contract: as many bytes are written as the answer lets out, sixteen or none, and where it lets them out the key
 -- and the input are long enough for their first sixteen bytes to be all there. Assumes nothing.
-use Prim.Native.Nat.{ℕ, _≤_, _<_}
-use mathlib.Core.Path.{_≡_, refl, ap, sym, _∙_}
+use Prim.Native.Nat.{ℕ, _≤_}
+use mathlib.Core.Path.{_≡_, refl, _∙_}
 use mathlib.Core.List.{List, _++_}
 use native.Mathlib.Decide.{decLt, ℕ-discrete}
 use native.Mathlib.Omega.{arith}

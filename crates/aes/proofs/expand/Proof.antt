@@ -1,6 +1,6 @@
 -- `aes::expand` meets its contract: after i turns the list's first i + 1 entries are round keys, and w and rc are those of round i.
 -- Assumes nothing.
-use Prim.Native.Nat.{ℕ, _+_, _-_, _≤_}
+use Prim.Native.Nat.{_+_, _-_, _≤_}
 use mathlib.Core.Path.{_≡_, refl, _∙_}
 use mathlib.Core.List.{_++_}
 use native.Mathlib.Omega.{arith}

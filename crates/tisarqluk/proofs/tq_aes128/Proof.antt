@@ -1,5 +1,5 @@
 -- `tisarqluk::tq_aes128` meets its contract: it is the block on slices, and its answer's number. Assumes nothing.
-use mathlib.Core.Path.{_≡_, ap, _∙_}
+use mathlib.Core.Path.{ap, _∙_}
 use borrow.Author.Needs.{needs}
 use Rattle.refusal.specs.Numbers.{numberOf}
 use Rattle.tisarqluk.proofs.tq_aes128.Statement.{statement}

@@ -1,6 +1,6 @@
 -- `aes::array::state` meets its contract. Assumes nothing.
 use mathlib.Core.Path.{_≡_}
-use mathlib.Core.List.{List, [], _∷_}
+use mathlib.Core.List.{List}
 use Prim.Native.Nat.{ℕ}
 use Rattle.aes.specs.State.{State, toState, columns}
 use Rattle.aes.specs.State.{toWords}

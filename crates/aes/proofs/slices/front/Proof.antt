@@ -5,7 +5,6 @@ use mathlib.Core.List.{_++_, List}
 use native.Mathlib.Nat.{zero-add}
 use native.Mathlib.Omega.{arith}
 use lib.ListN.{length, getD, set, take, drop, replicate, length-set}
-use lib.Seq.{take-all}
 use Rattle.aes.specs.Inner.{frontOf}
 use Rattle.aes.proofs.Lists.{many-at, front-more}
 use borrow.Author.Needs.{needs}

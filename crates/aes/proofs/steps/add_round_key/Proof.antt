@@ -1,7 +1,7 @@
 -- `aes::steps::add_round_key` meets its contract: each row of the sum is that of the state plus that of the key, whose rows are the bytes of
 -- the words of `columns k`. Assumes nothing.
 use mathlib.Core.Path.{_≡_}
-use mathlib.Core.List.{List, [], _∷_}
+use mathlib.Core.List.{[], _∷_}
 use lib.ListN.{getD}
 use Rattle.aes.specs.State.{State, Word, columns}
 use Rattle.aes.specs.Steps.{addRoundKey}

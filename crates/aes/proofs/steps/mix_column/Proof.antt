@@ -1,7 +1,4 @@
 -- `aes::steps::mix_column` meets its contract: each byte is a row of the matrix by the column. Assumes nothing.
-use mathlib.Core.Path.{_≡_}
-use mathlib.Core.List.{List, [], _∷_}
-use lib.ListN.{getD}
 use Rattle.aes.specs.Steps.{rowBy, mixColumn}
 use Rattle.aes.proofs.Lists.{four-equal}
 use borrow.Author.Needs.{needs}

@@ -1,6 +1,6 @@
 -- `aes::steps::mix_columns` meets its contract. Assumes nothing.
 use mathlib.Core.Path.{_≡_}
-use mathlib.Core.List.{List, [], _∷_}
+use mathlib.Core.List.{[], _∷_}
 use lib.ListN.{getD}
 use Rattle.aes.specs.State.{State, Word, columns}
 use Rattle.aes.specs.Steps.{mixColumn, mixColumns}

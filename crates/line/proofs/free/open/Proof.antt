@@ -1,14 +1,10 @@
 -- The first test that fails decides; where none does, the 16 bytes of key and IV are read whole.
-use mathlib.Core.Path.{_≡_, refl, sym, ap, _∙_}
-use mathlib.Core.Bool.{true, false, _||_}
-use Prim.Native.Nat.{ℕ, _<_, _≤_}
+use mathlib.Core.Path.{_∙_}
 use native.Mathlib.Omega.{arith}
-use lib.Dec.{ltb, eqb}
-use lib.ListN.{length}
+use lib.Dec.{ltb}
 use borrow.Author.Needs.{needs}
 use borrow.Author.Tests.{eq-eqb, ne-eqb, ltb-false}
 use Rattle.refusal.specs.declared.Refusal.{Refusal}
-use Rattle.refusal.specs.declared.Answer.{Answer}
 use Rattle.line.specs.Free.{openAnswer, fresh}
 use Rattle.line.proofs.Records.{neither}
 use Rattle.line.proofs.Replies.{read-whole, open-refused, open-done}

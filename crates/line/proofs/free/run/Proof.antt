@@ -1,8 +1,7 @@
 -- The first test that fails decides; where none does, the runs give what the mode gives.
-use mathlib.Core.Path.{_≡_, refl, sym, ap, _∙_}
+use mathlib.Core.Path.{_≡_, sym, _∙_}
 use mathlib.Core.Bool.{true, false}
-use mathlib.Core.List.{List}
-use Prim.Native.Nat.{ℕ, _+_, _*_, _/_, _<_, _≤_}
+use Prim.Native.Nat.{_+_, _/_}
 use native.Mathlib.Omega.{arith}
 use lib.Dec.{ltb}
 use lib.ListN.{length}
@@ -11,7 +10,6 @@ use borrow.Author.Tests.{lt-ltb, le-ltb}
 use Rattle.bits.proofs.Arrays.{field-length, field-bytes}
 use Rattle.bits.proofs.Laid.{laid-nothing}
 use Rattle.refusal.specs.declared.Refusal.{Refusal}
-use Rattle.refusal.specs.declared.Answer.{Answer}
 use Rattle.line.specs.Tests.{faulty}
 use Rattle.line.specs.Free.{runAnswer}
 use Rattle.line.proofs.Records.{good-of}

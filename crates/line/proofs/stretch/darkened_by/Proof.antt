@@ -1,5 +1,4 @@
 -- Field by field; whether the blackout goes on is what the test picks.
-use mathlib.Core.Path.{_≡_, sym}
 use borrow.Author.Needs.{needs}
 use borrow.Author.Tests.{lt-ltb, le-ltb}
 use Rattle.line.proofs.stretch.darkened_by.Statement.{statement}

@@ -1,6 +1,4 @@
 -- Field by field; the blackout's bits are those that the test picks.
-use mathlib.Core.Path.{_≡_, sym}
-use mathlib.Core.Bool.{cond}
 use borrow.Author.Needs.{needs}
 use Rattle.line.proofs.stretch.scanned_to.Statement.{statement}
 use Rattle.line.proofs.stretch.scanned_to.Tie as tie

@@ -1,7 +1,6 @@
 -- Where the answer is Done, the settings lie inside the file.
-use mathlib.Core.Path.{_≡_, sym, _∙_}
-use Rattle.refusal.specs.declared.Answer.{Answer}
-use Rattle.linefile.specs.File.{contents, readAnswer}
+use mathlib.Core.Path.{sym, _∙_}
+use Rattle.linefile.specs.File.{contents}
 use Rattle.linefile.proofs.Areas.{areas-inside}
 use borrow.Author.Needs.{needs}
 use Rattle.linefile.proofs.reader.read.Statement.{statement}

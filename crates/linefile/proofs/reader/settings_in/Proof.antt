@@ -3,7 +3,7 @@ use Prim.Native.Nat.{_+_}
 use native.Mathlib.Omega.{arith}
 use Rattle.bits.proofs.Lists.{Bytes}
 use Rattle.bits.proofs.Parts.{sixteen}
-use Rattle.linefile.specs.File.{settingsOf, settingsAt}
+use Rattle.linefile.specs.File.{settingsAt}
 use borrow.Author.Needs.{needs}
 use Rattle.linefile.proofs.reader.settings_in.Statement.{statement}
 use Rattle.linefile.proofs.reader.settings_in.Tie as tie

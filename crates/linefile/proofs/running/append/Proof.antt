@@ -1,7 +1,6 @@
 -- The loop keeps `Appended`.
 use Prim.Native.Nat.{_-_}
 use native.Mathlib.Omega.{arith}
-use borrow.Author.Needs.{needs}
 use Rattle.linefile.proofs.Appended.{Appended, none-appended, as-long, more-appended, all-appended}
 use Rattle.linefile.proofs.running.append.Statement.{statement}
 use Rattle.linefile.proofs.running.append.Tie as tie

@@ -1,8 +1,6 @@
 -- The loop keeps `Listing`.
-use mathlib.Core.Path.{_≡_, refl}
-use Prim.Native.Nat.{ℕ, _+_, _-_}
+use Prim.Native.Nat.{_-_}
 use native.Mathlib.Omega.{arith}
-use borrow.Author.Needs.{needs}
 use Rattle.linefile.proofs.Listing.{Listing, listing, bit, turn-found, turn-none, listed}
 use Rattle.linefile.proofs.scanner.list_ends.Statement.{statement}
 use Rattle.linefile.proofs.scanner.list_ends.Tie as tie

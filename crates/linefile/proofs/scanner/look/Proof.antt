@@ -1,5 +1,4 @@
 -- Each branch is a law on one line bit.
-use Prim.Native.Nat.{_+_, _*_, _<_}
 use native.Mathlib.Omega.{arith}
 use borrow.Author.Needs.{needs}
 use Rattle.linefile.proofs.Looking.{low, looks-dark, looks-few, looks-hit, looks-miss}

@@ -1,6 +1,5 @@
 -- Past the end there is nothing to store.
 use mathlib.Core.Path.{sym}
-use native.Mathlib.Omega.{arith}
 use lib.Seq.{set-out}
 use borrow.Author.Needs.{needs}
 use Rattle.linefile.proofs.scanner.put.Statement.{statement}

@@ -6,12 +6,10 @@ use native.Mathlib.Omega.{arith}
 use lib.ListN.{length}
 use lib.Seq.{sets}
 use borrow.Author.Needs.{needs}
-use Rattle.refusal.specs.declared.Refusal.{Refusal}
 use Rattle.refusal.specs.declared.Answer.{Answer}
 use Rattle.bits.specs.Bits.{part}
 use Rattle.mode.specs.Ends.{patternEnds}
 use Rattle.linefile.specs.declared.reader.Contents.{Contents}
-use Rattle.linefile.specs.declared.scanning.Syncs.{Syncs}
 use Rattle.linefile.specs.File.{contents}
 use Rattle.linefile.specs.Syncs.{scanned, synced, syncsLeft}
 use Rattle.linefile.proofs.Areas.{bits-told, done, refused}

@@ -1,6 +1,5 @@
 -- A run of so few bits is never refused.
-use mathlib.Core.Path.{_≡_, refl}
-use native.Mathlib.Omega.{arith}
+use mathlib.Core.Path.{refl}
 use borrow.Author.Needs.{needs}
 use Rattle.bits.proofs.Lists.{zeros}
 use Rattle.bits.proofs.Arrays.{array-length}

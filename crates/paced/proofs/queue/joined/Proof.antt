@@ -1,5 +1,4 @@
 -- What the reading, the drawing and the writing give is what `joined-is` joins.
-use mathlib.Core.Path.{_≡_}
 use borrow.Author.Needs.{needs}
 use Rattle.paced.proofs.Joining.{joined-is}
 use Rattle.paced.proofs.queue.joined.Statement.{statement}

@@ -1,6 +1,5 @@
 -- The bits behind those written, up to the end of their byte, are read before and written after.
-use mathlib.Core.Path.{_≡_, refl}
-use native.Mathlib.Omega.{arith}
+use mathlib.Core.Path.{refl}
 use borrow.Author.Needs.{needs}
 use Rattle.bits.proofs.Arrays.{array-length, array-bytes}
 use Rattle.paced.proofs.Joining.{replaced-is}

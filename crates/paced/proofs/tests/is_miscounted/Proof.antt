@@ -1,5 +1,5 @@
 -- The three counts, as they stand in the record, meet the tests of an open line or of a closed one.
-use mathlib.Core.Path.{_≡_, sym, ap, _∙_}
+use mathlib.Core.Path.{sym, ap, _∙_}
 use mathlib.Core.Bool.{Bool, cond}
 use borrow.Author.Needs.{needs}
 use Rattle.paced.specs.Tests.{leftover, unbalanced}

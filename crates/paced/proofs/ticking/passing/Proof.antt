@@ -1,6 +1,4 @@
 -- Where w bits wait they pass, otherwise none do.
-use mathlib.Core.Path.{_≡_, sym, subst}
-use Prim.Native.Nat.{ℕ, _≤_}
 use native.Mathlib.Omega.{arith}
 use borrow.Author.Needs.{needs}
 use Rattle.bits.proofs.Arrays.{array-length, array-bytes}

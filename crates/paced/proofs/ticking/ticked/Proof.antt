@@ -1,14 +1,14 @@
 -- The queue's steps, one after the other, are those of `tick-is`; the numbers stay below 480.
 use mathlib.Core.Path.{_≡_, refl, sym, ap, subst, _∙_}
-use mathlib.Core.List.{List, _++_}
-use Prim.Native.Nat.{ℕ, _+_, _-_, _*_, _≤_}
+use mathlib.Core.List.{_++_}
+use Prim.Native.Nat.{ℕ, _+_, _-_}
 use native.Mathlib.Omega.{arith}
 use borrow.Author.Needs.{needs}
 use Rattle.bits.specs.Bits.{pack, part, laid}
-use Rattle.pace.specs.Tick.{width, moves}
+use Rattle.pace.specs.Tick.{width}
 use Rattle.paced.specs.Inner.{Passes}
 use Rattle.paced.proofs.Records.{few-d}
-use Rattle.paced.proofs.Moves.{moves-in, leave-few, leave-in, old-is, old-in, new-in, move-in, leaving-bits, tick-is}
+use Rattle.paced.proofs.Moves.{moves-in, leave-few, old-is, old-in, new-in, move-in, leaving-bits, tick-is}
 use Rattle.paced.proofs.ticking.ticked.Statement.{statement}
 use Rattle.paced.proofs.ticking.ticked.Tie as tie
 

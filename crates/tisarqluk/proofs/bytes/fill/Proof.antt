@@ -1,5 +1,5 @@
 -- `tisarqluk::bytes::fill` meets its contract: a part of the buffer is written over all of the list. Assumes nothing.
-use mathlib.Core.Path.{_≡_, refl, _∙_}
+use mathlib.Core.Path.{refl, _∙_}
 use Prim.Native.Nat.{_+_}
 use lib.ListN.{length}
 use denote.Ref.{now}

@@ -1,5 +1,4 @@
 -- `tisarqluk::free_calls::tq_free_open` meets its contract: the buffer's length is tried first, and the rest is the opening by value. Assumes nothing.
-use mathlib.Core.Path.{_≡_}
 use mathlib.Core.List.{List}
 use Prim.Native.Nat.{ℕ}
 use lib.ListN.{length}

@@ -1,14 +1,12 @@
 -- `tisarqluk::free_record::put_line` meets its contract: its six parts are written one after the other. Assumes nothing.
 use mathlib.Core.Path.{_≡_, refl, sym, ap, _∙_}
-use mathlib.Core.List.{List, [], _∷_, _++_}
-use Prim.Native.Nat.{ℕ, _+_, _≤_}
+use mathlib.Core.List.{[], _∷_}
 use native.Mathlib.Omega.{arith}
-use lib.ListN.{length, drop}
+use lib.ListN.{length}
 use denote.Ref.{now}
 use borrow.Author.Needs.{needs}
-use Rattle.line.specs.declared.record.Line.{Line}
 use Rattle.tisarqluk.specs.FreeRecord.{lineBytes}
-use Rattle.tisarqluk.proofs.Parts.{Front, none, next}
+use Rattle.tisarqluk.proofs.Parts.{none, next}
 use Rattle.tisarqluk.proofs.free_record.put_line.Statement.{statement}
 use Rattle.tisarqluk.proofs.free_record.put_line.Tie as tie
 

@@ -1,5 +1,5 @@
 -- `tisarqluk::paced_calls::settle` meets its contract: the number is 0 where the call was done, and nowhere else. Assumes nothing.
-use mathlib.Core.Path.{_≡_, sym, _∙_}
+use mathlib.Core.Path.{sym, _∙_}
 use denote.Ref.{now}
 use borrow.Author.Needs.{needs}
 use Rattle.tisarqluk.specs.PacedRecord.{storedPaced}

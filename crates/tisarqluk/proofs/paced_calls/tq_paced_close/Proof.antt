@@ -1,6 +1,6 @@
 -- `tisarqluk::paced_calls::tq_paced_close` meets its contract: what the buffer holds is tried first, and the rest is the closing by value on the
 -- line that stands in it. Assumes nothing.
-use mathlib.Core.Path.{_≡_, sym, _∙_}
+use mathlib.Core.Path.{sym, _∙_}
 use mathlib.Core.List.{List}
 use Prim.Native.Nat.{ℕ}
 use denote.Ref.{now}

@@ -1,5 +1,5 @@
 -- `tisarqluk::paced_calls::values` meets its contract: each arm of the match is told which answer it has. Assumes nothing.
-use mathlib.Core.Path.{_≡_, sym, ap}
+use mathlib.Core.Path.{sym, ap}
 use borrow.Author.Needs.{needs}
 use Rattle.tisarqluk.specs.PacedCalls.{answerOf}
 use Rattle.tisarqluk.proofs.paced_calls.values.Statement.{statement}
