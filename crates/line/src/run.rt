@@ -3,7 +3,7 @@ use super::record::Line;
 use super::stretch;
 use super::stretch::Going;
 ghost use mathlib.Core.Path.{_≡_};
-ghost use Prim.Native.Nat.{_<_, _≤_};
+ghost use Prim.Native.Nat.{_<_};
 ghost use Rattle.line.specs.Inner.{Good, Ready, Room, Ran, Whole};
 
 // Scans until a match, and then goes on in the blackout.

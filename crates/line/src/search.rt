@@ -1,5 +1,4 @@
 // The scanner: line bits are taken one by one into the window until it ends in the pattern (01, "Scanning").
-ghost use mathlib.Core.Path.{_≡_};
 ghost use Prim.Native.Nat.{_^_, _<_, _≤_};
 ghost use Rattle.line.specs.Inner.{Found};
 

@@ -1,6 +1,5 @@
 // A stretch of a run: bits within one keystream block, scanned up to the earliest match, or within one blackout.
 use super::cover;
-use super::cover::Covered;
 use super::record::Line;
 use super::search;
 use super::search::Finding;

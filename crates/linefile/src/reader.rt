@@ -2,9 +2,9 @@
 use refusal::Answer;
 use refusal::Refusal;
 ghost use mathlib.Core.Path.{_≡_};
-ghost use Prim.Native.Nat.{_+_, _*_, _^_, _<_, _≤_};
+ghost use Prim.Native.Nat.{_+_, _^_, _<_, _≤_};
 ghost use lib.ListN.{length};
-ghost use Rattle.linefile.specs.File.{numberAt, outside, overlapping, ragged, malformed, blackoutRefused, rateRefused, readAnswer, settingsOf, settingsAt, noSettings, contents};
+ghost use Rattle.linefile.specs.File.{numberAt, outside, overlapping, ragged, malformed, blackoutRefused, rateRefused, readAnswer, settingsOf, settingsAt, contents};
 
 // The 36 bytes of settings. D is 0 for a free line.
 pub struct Settings {

@@ -1,11 +1,10 @@
 // The scanner of line bits: where patterns end (01, "Scanning", "Blackout"; what `syncs` prints).
 ghost use mathlib.Core.Path.{_≡_};
-ghost use mathlib.Core.Bool.{Bool};
 ghost use Prim.Native.Nat.{_+_, _*_, _^_, _<_, _≤_};
 ghost use lib.ListN.{length, set};
 ghost use lib.Seq.{sets};
 ghost use Rattle.bits.specs.Bits.{part};
-ghost use Rattle.mode.specs.Ends.{patternEnds, underNew};
+ghost use Rattle.mode.specs.Ends.{patternEnds};
 ghost use Rattle.linefile.specs.Syncs.{scanned as scannedBy};
 ghost use Rattle.linefile.specs.Inner.{Steady, Looked};
 

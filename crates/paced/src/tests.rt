@@ -1,9 +1,7 @@
 // The tests for 9 of a paced line's record (01, "Tests for 9").
 use super::record::Paced;
 ghost use mathlib.Core.Path.{_≡_};
-ghost use mathlib.Core.Bool.{not, _||_};
-ghost use Prim.Native.Nat.{_+_, _-_, _*_, _≤_};
-ghost use lib.Dec.{ltb, eqb};
+ghost use Prim.Native.Nat.{_≤_};
 ghost use Rattle.pace.specs.Tick.{hold};
 ghost use Rattle.paced.specs.Tests.{tooFast, unbalanced, leftover, miscounted, faulty};
 
