@@ -17,7 +17,7 @@ pub fn get(s: &[u8], i: usize) -> u8
 pub fn read(s: &[u8], from: usize, n: usize) -> [u8; 16]
     ensures { λ r. ⌜ r ≡ pack 16 (part (now (s .entry)) from n) ⌝ }
 {
-    let m = at_most(n, 128);
+    let m = least(n, 128);
     let j = from / 8;
     let mut out = [0u8; 16];
     pour(&mut out, 0, (m + 7) / 8, s, j + 1, byte(s, j), 8 - from % 8);
@@ -51,11 +51,11 @@ pub fn draw(d: &mut [u8], s: &[u8], from: usize)
     pour(d, 0, end, s, j + 1, byte(s, j), 8 - from % 8);
 }
 
-// The smaller of the two.
-fn at_most(n: usize, most: usize) -> usize
-    ensures { λ r. ⌜ r ≡ min n most ⌝ }
+// The smaller of the two, for whoever takes bits in pieces.
+pub fn least(a: usize, b: usize) -> usize
+    ensures { λ r. ⌜ r ≡ min a b ⌝ }
 {
-    if n < most { n } else { most }
+    if a < b { a } else { b }
 }
 
 // Byte i of s; 0 past its end.

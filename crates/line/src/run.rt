@@ -79,7 +79,7 @@ pub(crate) fn whole(line: Line, n: usize, input: &[u8], output: &mut [u8]) -> Li
     let mut g = Going { line, block };
     let mut at = 0;
     while at < n {
-        let k = stretch::least(n - at, 4096);
+        let k = bits::least(n - at, 4096);
         let next = piece(input, output, at, k, g);
         g = next;
         at += k;

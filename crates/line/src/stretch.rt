@@ -3,9 +3,10 @@ use super::cover;
 use super::record::Line;
 use super::search;
 use super::search::Finding;
+use super::tests;
 use counter::Position;
 ghost use mathlib.Core.Path.{_≡_};
-ghost use Prim.Native.Nat.{_+_, _≤_, _<_, min};
+ghost use Prim.Native.Nat.{_+_, _≤_, _<_};
 ghost use Rattle.bits.specs.Bits.{wrote};
 ghost use Rattle.aes.specs.Cipher.{aes128};
 ghost use Rattle.line.specs.Inner.{Ready, Room, Stretched, movedOn, scannedTo, darkenedBy};
@@ -20,12 +21,6 @@ pub struct Going {
 pub struct Stretch {
     pub going: Going,
     pub done: usize,
-}
-
-pub(crate) fn least(a: usize, b: usize) -> usize
-    ensures { λ r. ⌜ r ≡ min a b ⌝ }
-{
-    if a < b { a } else { b }
 }
 
 // The line with its keystream block: made anew where the place is the first of a block.
@@ -59,12 +54,6 @@ fn moved(p: Position, n: usize) -> Position
     })
 }
 
-fn wide(x: u8) -> u16
-    ensures { λ r. ⌜ r ≡ x ⌝ }
-{
-    x as u16
-}
-
 // The line after the bits that the scanner took: where it found the pattern, the blackout begins with the next bit.
 fn scanned_to(line: Line, f: Finding) -> Line
     requires { ⌜ (0 < f .count) × (line .position .place + f .count ≤ 128) ⌝ }
@@ -77,7 +66,7 @@ fn scanned_to(line: Line, f: Finding) -> Line
     t.window = f.window;
     t.seen = f.seen;
     if f.found {
-        t.left = 128 * wide(line.l);
+        t.left = 128 * tests::wide(line.l);
     }
     t
 }
@@ -99,7 +88,7 @@ pub(crate) fn scan_stretch(
     let block = g.block;
     let p = line.position;
     let place = p.place as usize;
-    let m = least(n, 128 - place);
+    let m = bits::least(n, 128 - place);
     let c = cover::cover(input, from, m, block, place, line.receiving);
     let carried = c.carried;
     let f = search::search(carried, m, line.window, line.seen, line.pattern);
@@ -126,7 +115,7 @@ fn darkened_by(line: Line, carried: [u8; 16], m: usize) -> Line
     ensures { λ r. ⌜ r ≡ darkenedBy line carried m ⌝ }
 {
     let collected = line.collected as usize;
-    let k = least(m, 128 - collected);
+    let k = bits::least(m, 128 - collected);
     let old = line.iv;
     let iv = gathered(old, collected, carried, k);
     let left = line.left as usize;
@@ -168,7 +157,7 @@ pub(crate) fn dark_stretch(
     let block = g.block;
     let p = line.position;
     let place = p.place as usize;
-    let m = least(least(n, 128 - place), line.left as usize);
+    let m = bits::least(bits::least(n, 128 - place), line.left as usize);
     let c = cover::cover(input, from, m, block, place, line.receiving);
     let out = c.out;
     bits::write(output, from, out, m);

@@ -6,7 +6,7 @@ ghost use Prim.Native.Nat.{_-_, _*_, _/_, _^_, _<_, _≤_, min};
 ghost use lib.Dec.{ltb, eqb};
 ghost use Rattle.line.specs.Tests.{faulty};
 
-fn wide(x: u8) -> u16
+pub(crate) fn wide(x: u8) -> u16
     ensures { λ r. ⌜ r ≡ x ⌝ }
 {
     x as u16

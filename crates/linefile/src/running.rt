@@ -7,7 +7,7 @@ use refusal::Answer;
 use refusal::Refusal;
 ghost use mathlib.Core.Path.{_≡_};
 ghost use mathlib.Core.List.{[]};
-ghost use Prim.Native.Nat.{_+_, _*_, _≤_, min};
+ghost use Prim.Native.Nat.{_+_, _*_, _≤_};
 ghost use lib.ListN.{length};
 ghost use Rattle.mode.specs.Rule.{outs};
 ghost use Rattle.bits.specs.Bits.{part, laid};
@@ -36,12 +36,6 @@ fn run_free(c: Settings, file: &[u8], start: usize, n: usize, output: &mut [u8])
     let done = line::free::run(line, n, &file[start..], output);
 }
 
-fn least(a: usize, b: usize) -> usize
-    ensures { λ r. ⌜ r ≡ min a b ⌝ }
-{
-    if a < b { a } else { b }
-}
-
 // Lays the first n bits of s after the first `at` bits of the output, behind which its last byte has nothing but zeros.
 fn append(output: &mut [u8], at: usize, s: &[u8], n: usize)
     requires { ⌜ (n ≤ 8 * length (now s)) × (at + n ≤ 8 * length (now output)) × (at + n ≤ 524288) × (laid (now output) at [] ≡ now output) ⌝ }
@@ -49,7 +43,7 @@ fn append(output: &mut [u8], at: usize, s: &[u8], n: usize)
 {
     let mut i = 0;
     while i < n {
-        let m = least(n - i, 128);
+        let m = bits::least(n - i, 128);
         bits::write(output, at + i, bits::read(s, i, m), m);
         i += m;
     }

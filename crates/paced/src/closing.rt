@@ -9,18 +9,12 @@ use line::record::Line;
 use refusal::Refusal;
 ghost use mathlib.Core.Path.{_≡_};
 ghost use mathlib.Core.List.{[]};
-ghost use Prim.Native.Nat.{_+_, _*_, _≤_, min};
+ghost use Prim.Native.Nat.{_+_, _*_, _≤_};
 ghost use lib.ListN.{length, take};
 ghost use Rattle.bits.specs.Bits.{bitsOf, part, laid};
 ghost use Rattle.line.specs.Inner.{Good};
 ghost use Rattle.paced.specs.Closing.{lastFrom, closing as closingOf, closeWrites};
 ghost use Rattle.paced.specs.Inner.{Open, PassedOn, closedTo};
-
-fn least(a: usize, b: usize) -> usize
-    ensures { λ r. ⌜ r ≡ min a b ⌝ }
-{
-    if a < b { a } else { b }
-}
 
 // Lays n bits after the first `at` bits of the output, in the part of it from its current byte on.
 fn append(output: &mut [u8], at: usize, b: [u8; 16], n: usize)
@@ -38,7 +32,7 @@ fn copy(q: [u8; 60], n: usize, output: &mut [u8])
 {
     let mut i = 0;
     while i < n {
-        let m = least(n - i, 128);
+        let m = bits::least(n - i, 128);
         let b = bits::read(&q, i, m);
         append(output, i, b, m);
         i += m;
@@ -54,7 +48,7 @@ fn pass_on(line: Line, q: [u8; 60], from: usize, n: usize, output: &mut [u8]) ->
     let mut i = from;
     let end = from + n;
     while i < end {
-        let m = least(end - i, 128);
+        let m = bits::least(end - i, 128);
         let b = bits::read(&q, i, m);
         let t = block::passed(s, b, m);
         let out = t.out;

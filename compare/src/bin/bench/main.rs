@@ -10,7 +10,7 @@ use compare::boundary::Library;
 use compare::entry::{EntryPoints, SecondProgram};
 use openssl::{Openssl, LEVELS};
 use timing::{nanoseconds_each, Spread};
-use work::{Block, FreeRun, Ticks, Work};
+use work::{Block, FreeRun, ShortRuns, Ticks, Work};
 
 const ROUNDS: usize = 5;
 
@@ -19,7 +19,10 @@ fn works(side: &'static dyn EntryPoints) -> Vec<(&'static str, Box<dyn Work>)> {
     vec![
         ("free run, L 11, pattern 86, random bits", Box::new(FreeRun::random(side))),
         ("free run, L 1, pattern 00, zero line bits", Box::new(FreeRun::densest(side))),
-        ("ticks, L 10, D 116, random bits", Box::new(Ticks::new(side))),
+        ("ticks, L 10, D 1, random bits", Box::new(Ticks::new(side, 1))),
+        ("ticks, L 10, D 64, random bits", Box::new(Ticks::new(side, 64))),
+        ("ticks, L 10, D 116, random bits", Box::new(Ticks::new(side, 116))),
+        ("free runs of 116 bits, L 10, random bits", Box::new(ShortRuns::new(side, 116))),
         ("one AES block", Box::new(Block::new(side))),
     ]
 }

@@ -58,41 +58,75 @@ impl Work for FreeRun {
     }
 }
 
-/// A hundred ticks at the rate of source document 003.
+/// A hundred short runs, to hold a tick of as many bits to.
+pub struct ShortRuns {
+    side: &'static dyn EntryPoints,
+    record: Vec<u8>,
+    bits: usize,
+    input: Vec<u8>,
+}
+
+impl ShortRuns {
+    pub fn new(side: &'static dyn EntryPoints, bits: usize) -> ShortRuns {
+        let mut record = vec![0; side.free_record_bytes()];
+        assert_eq!(side.free_open(&mut record, &opening(0x86, 10, 0)), 0);
+        let input = Random::new(1, "bench", 2).bytes(TICKS * bits.div_ceil(8));
+        ShortRuns { side, record, bits, input }
+    }
+}
+
+impl Work for ShortRuns {
+    fn once(&mut self) {
+        let mut output = [0; 15];
+        for input in self.input.chunks(self.bits.div_ceil(8)) {
+            let bits = self.bits as u64;
+            assert_eq!(self.side.free_run(&mut self.record, bits, input, &mut output), 0);
+        }
+    }
+
+    fn units(&self) -> u64 {
+        TICKS as u64
+    }
+
+    fn unit(&self) -> &'static str {
+        "run"
+    }
+}
+
+/// A hundred ticks of D bits, at the L of source document 003.
 pub struct Ticks {
     side: &'static dyn EntryPoints,
     record: Vec<u8>,
+    bytes: usize,
     input: Vec<u8>,
 }
 
 const TICKS: usize = 100;
-const TICK_BITS: usize = 116;
-const TICK_BYTES: usize = 15;
 
 impl Ticks {
-    pub fn new(side: &'static dyn EntryPoints) -> Ticks {
+    pub fn new(side: &'static dyn EntryPoints, d: usize) -> Ticks {
         let mut record = vec![0; side.paced_record_bytes()];
-        let opening = opening(0x86, 10, 0);
-        assert_eq!(side.paced_open(&mut record, &opening, TICK_BITS as u64), 0);
-        let input = Random::new(1, "bench", 1).bytes(TICKS * TICK_BYTES);
-        Ticks { side, record, input }
+        assert_eq!(side.paced_open(&mut record, &opening(0x86, 10, 0), d as u64), 0);
+        let bytes = d.div_ceil(8);
+        let input = Random::new(1, "bench", 1).bytes(TICKS * bytes);
+        Ticks { side, record, bytes, input }
     }
 }
 
 impl Work for Ticks {
     fn once(&mut self) {
-        let mut output = [0; TICK_BYTES];
-        for input in self.input.chunks(TICK_BYTES) {
+        let mut output = [0; 15];
+        for input in self.input.chunks(self.bytes) {
             assert_eq!(self.side.paced_tick(&mut self.record, input, &mut output).refusal, 0);
         }
     }
 
     fn units(&self) -> u64 {
-        (TICKS * TICK_BITS) as u64
+        TICKS as u64
     }
 
     fn unit(&self) -> &'static str {
-        "bit"
+        "tick"
     }
 }
 

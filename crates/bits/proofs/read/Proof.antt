@@ -9,8 +9,8 @@ returns c =
     let b = c .before .before .before .before .before in
     let a = b .before .before in
     let s = a .before .before in
-    read-is (s .args .s .now) (s .args .from) (s .args .n) (a .at-most .result) (b .byte .result) (c .before .before .before .before .pour .last .0) (c .before .clear .last .0)
-    (a .at-most .ensures) (b .byte .ensures) (c .before .before .before .before .pour .ensures) (c .before .clear .ensures)
+    read-is (s .args .s .now) (s .args .from) (s .args .n) (a .least .result) (b .byte .result) (c .before .before .before .before .pour .last .0) (c .before .clear .last .0)
+    (a .least .ensures) (b .byte .ensures) (c .before .before .before .before .pour .ensures) (c .before .clear .ensures)
 
 pub read-spec : {M : Type 1} → statement M
 read-spec =
