@@ -6,7 +6,7 @@ use counter::Position;
 use refusal::Answer;
 use refusal::Refusal;
 ghost use mathlib.Core.Path.{_≡_};
-ghost use Rattle.line.specs.Free.{fresh as freshOf, opening, running, written};
+ghost use Rattle.line.specs.Free.{fresh as freshOf, zeroLine, opening, running, written};
 
 // The answer to a call, and the line after it: of a refused call the line as it came, of a refused opening a record of zeros.
 pub struct Reply {
@@ -35,27 +35,34 @@ fn fresh(key: [u8; 16], iv: [u8; 16], pattern: u8, l: u8, receiving: bool) -> Li
     }
 }
 
+// A record of zeros, which every call refuses with 9.
+pub fn zero() -> Line
+    ensures { λ r. ⌜ r ≡ zeroLine ⌝ }
+{
+    fresh([0u8; 16], [0u8; 16], 0, 0, false)
+}
+
 // Opens a line, sending or receiving.
 pub fn open(key: &[u8], iv: &[u8], pattern: u8, l: u64, receiving: bool) -> Reply
     ensures { λ r. ⌜ r ≡ opening (now (key .entry)) (now (iv .entry)) pattern l receiving ⌝ }
 {
-    let zero = fresh([0u8; 16], [0u8; 16], 0, 0, false);
+    let none = zero();
     if key.len() != 16 {
         return Reply {
             answer: Answer::Refused(Refusal::Key),
-            line: zero,
+            line: none,
         };
     }
     if iv.len() != 16 {
         return Reply {
             answer: Answer::Refused(Refusal::Iv),
-            line: zero,
+            line: none,
         };
     }
     if (l < 1) | (11 < l) {
         return Reply {
             answer: Answer::Refused(Refusal::Blackout),
-            line: zero,
+            line: none,
         };
     }
     let k = bits::read(key, 0, 128);

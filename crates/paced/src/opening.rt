@@ -2,7 +2,6 @@
 use super::answer::Reply;
 use super::record::Paced;
 use super::tests;
-use counter::Position;
 use line::record::Line;
 use refusal::Answer;
 use refusal::Refusal;
@@ -28,22 +27,7 @@ fn empty(line: Line, d: u8, fillers: u16) -> Paced
 fn zero() -> Paced
     ensures { λ r. ⌜ r ≡ zeroPaced ⌝ }
 {
-    let line = Line {
-        key: [0u8; 16],
-        pattern: 0,
-        l: 0,
-        receiving: false,
-        position: Position {
-            counter: [0u8; 16],
-            place: 0,
-        },
-        window: 0,
-        seen: 0,
-        left: 0,
-        iv: [0u8; 16],
-        collected: 0,
-    };
-    empty(line, 0, 0)
+    empty(line::free::zero(), 0, 0)
 }
 
 // Opens a line, sending or receiving, with M fillers.

@@ -15,19 +15,19 @@ returns : tie.Need-returns
 unfolding openAnswer
 returns c =
     let a = c .before .before .before .before .args in
-    open-refused (a .key .now) (a .iv .now) (a .pattern) (a .l) (a .receiving) (Refusal.Key) (simp (ne-eqb _ _ (c .if1 .taken))) _ (c .before .fresh .ensures)
+    open-refused (a .key .now) (a .iv .now) (a .pattern) (a .l) (a .receiving) (Refusal.Key) (simp (ne-eqb _ _ (c .if1 .taken))) _ (c .before .zero .ensures)
 
 returns-2 : tie.Need-returns-2
 unfolding openAnswer
 returns-2 c =
     let a = c .before .before .before .before .before .args in
-    open-refused (a .key .now) (a .iv .now) (a .pattern) (a .l) (a .receiving) (Refusal.Iv) (simp (eq-eqb _ _ (c .before .if1 .left), ne-eqb _ _ (c .if2 .taken))) _ (c .before .before .fresh .ensures)
+    open-refused (a .key .now) (a .iv .now) (a .pattern) (a .l) (a .receiving) (Refusal.Iv) (simp (eq-eqb _ _ (c .before .if1 .left), ne-eqb _ _ (c .if2 .taken))) _ (c .before .before .zero .ensures)
 
 returns-3 : tie.Need-returns-3
 unfolding openAnswer
 returns-3 c =
     let a = c .before .before .before .before .before .before .args in
-    open-refused (a .key .now) (a .iv .now) (a .pattern) (a .l) (a .receiving) (Refusal.Blackout) (simp (eq-eqb _ _ (c .before .before .if1 .left), eq-eqb _ _ (c .before .if2 .left), c .if3 .taken)) _ (c .before .before .before .fresh .ensures)
+    open-refused (a .key .now) (a .iv .now) (a .pattern) (a .l) (a .receiving) (Refusal.Blackout) (simp (eq-eqb _ _ (c .before .before .if1 .left), eq-eqb _ _ (c .before .if2 .left), c .if3 .taken)) _ (c .before .before .before .zero .ensures)
 
 cast-fresh : tie.Need-cast-fresh
 cast-fresh c =
@@ -43,7 +43,7 @@ returns-4 c =
     let v = c .before .read2 .ensures ∙ read-whole (a .iv .now) (c .before .before .before .before .if2 .left) (λ i. omega (arith, c .before .before .before .before .before .before .before .shared-slice-known2 .given i)) in
     open-done (a .key .now) (a .iv .now) (a .pattern) (a .l) (a .receiving)
     (simp (eq-eqb _ _ (c .before .before .before .before .before .if1 .left), eq-eqb _ _ (c .before .before .before .before .if2 .left), c .before .before .before .if3 .left)) _
-    (c .fresh2 .ensures ∙ (λ i. fresh (k i) (v i) (a .pattern) (a .l) (a .receiving)))
+    (c .fresh .ensures ∙ (λ i. fresh (k i) (v i) (a .pattern) (a .l) (a .receiving)))
 
 pub open-spec : {M : Type 1} → statement M
 open-spec =

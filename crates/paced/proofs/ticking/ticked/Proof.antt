@@ -1,7 +1,7 @@
 -- The queue's steps, one after the other, are those of `tick-is`; the numbers stay below 480.
 use mathlib.Core.Path.{_≡_, refl, sym, ap, subst, _∙_}
 use mathlib.Core.List.{_++_}
-use Prim.Native.Nat.{ℕ, _+_, _-_}
+use Prim.Native.Nat.{ℕ, _+_, _-_, _≤_}
 use native.Mathlib.Omega.{arith}
 use borrow.Author.Needs.{needs}
 use Rattle.bits.specs.Bits.{pack, part, laid}
@@ -47,87 +47,43 @@ passing-requires c κs =
     let el = c .before .before .before .before .before .less .ensures in
     (o .good, omega (arith, move-in (s .args .p) o _ _ _ _ er ew ef el))
 
-add-still : tie.Need-add-still
-add-still c =
-    let s = c .before .before .before .before .before .before .before .before .before .before .before .before .before .before .before .before .before in
+-- once bits have passed: what stays and what waits is less than the queue has, no more pass than wait, and few left
+few : (c : tie.After-passing)
+    → (c .before .before .before .before .before .before .before .before .before .before .before .wide .result - c .before .before .before .before .before .before .less .result + (c .before .before .before .before .before .before .before .before .before .before .wide2 .result + c .before .before .before .before .before .before .before .before .before .before .before .before .before .before .before .args .p .d) ≤ 477)
+    × (c .passing .result .count ≤ c .before .before .before .before .before .before .before .before .before .before .wide2 .result + c .before .before .before .before .before .before .before .before .before .before .before .before .before .before .before .args .p .d)
+    × (c .before .before .before .before .before .before .less .result ≤ 117)
+few c =
+    let s = c .before .before .before .before .before .before .before .before .before .before .before .before .before .before .before in
     let o = s .pre .0 in
-    let er = c .before .before .before .before .before .before .before .before .before .before .before .before .before .wide .ensures in
-    let ew = c .before .before .before .before .before .before .before .before .before .before .before .before .wide2 .ensures in
-    let ef = c .before .before .before .before .before .before .before .before .before .before .before .wide3 .ensures in
-    let el = c .before .before .before .before .before .before .before .before .less .ensures in
-    let low = moves-in (width (s .args .p .line .left)) (c .before .before .before .before .before .before .before .before .before .before .before .before .wide2 .result + s .args .p .d) in
-    let n-is = c .before .before .passing .ensures .count in
-    omega (arith, low, n-is, move-in (s .args .p) o _ _ _ _ er ew ef el)
+    let ew = c .before .before .before .before .before .before .before .before .before .before .wide2 .ensures in
+    let el = c .before .before .before .before .before .before .less .ensures in (
+      move-in (s .args .p) o _ _ _ _ (c .before .before .before .before .before .before .before .before .before .before .before .wide .ensures) ew (c .before .before .before .before .before .before .before .before .before .wide3 .ensures) el,
+      omega (arith, c .passing .ensures .count, moves-in (width (s .args .p .line .left)) (c .before .before .before .before .before .before .before .before .before .before .wide2 .result + s .args .p .d)),
+      omega (arith, el, few-d (s .args .p) o),
+    )
+
+add-still : tie.Need-add-still
+add-still c = let f = few (c .before .before) in omega (arith, f .0, f .1, f .2)
 
 sub-still : tie.Need-sub-still
-sub-still c =
-    let s = c .before .before .before .before .before .before .before .before .before .before .before .before .before .before .before .before .before .before in
-    let o = s .pre .0 in
-    let er = c .before .before .before .before .before .before .before .before .before .before .before .before .before .before .wide .ensures in
-    let ew = c .before .before .before .before .before .before .before .before .before .before .before .before .before .wide2 .ensures in
-    let ef = c .before .before .before .before .before .before .before .before .before .before .before .before .wide3 .ensures in
-    let el = c .before .before .before .before .before .before .before .before .before .less .ensures in
-    let low = moves-in (width (s .args .p .line .left)) (c .before .before .before .before .before .before .before .before .before .before .before .before .before .wide2 .result + s .args .p .d) in
-    let n-is = c .before .before .before .passing .ensures .count in
-    omega (arith, low, n-is, move-in (s .args .p) o _ _ _ _ er ew ef el)
+sub-still c = let f = few (c .before .before .before) in omega (arith, f .0, f .1, f .2)
 
 cast-still : tie.Need-cast-still
-cast-still c =
-    let s = c .before .before .before .before .before .before .before .before .before .before .before .before .before .before .before .before .before .before in
-    let o = s .pre .0 in
-    let er = c .before .before .before .before .before .before .before .before .before .before .before .before .before .before .wide .ensures in
-    let ew = c .before .before .before .before .before .before .before .before .before .before .before .before .before .wide2 .ensures in
-    let ef = c .before .before .before .before .before .before .before .before .before .before .before .before .wide3 .ensures in
-    let el = c .before .before .before .before .before .before .before .before .before .less .ensures in
-    let low = moves-in (width (s .args .p .line .left)) (c .before .before .before .before .before .before .before .before .before .before .before .before .before .wide2 .result + s .args .p .d) in
-    let n-is = c .before .before .before .passing .ensures .count in
-    omega (arith, low, n-is, move-in (s .args .p) o _ _ _ _ er ew ef el)
+cast-still c = let f = few (c .before .before .before) in omega (arith, f .0, f .1, f .2)
 
 cast-t22 : tie.Need-cast-t22
-cast-t22 c =
-    let s = c .before .before .before .before .before .before .before .before .before .before .before .before .before .before .before .before .before .before in
-    let o = s .pre .0 in
-    let er = c .before .before .before .before .before .before .before .before .before .before .before .before .before .before .wide .ensures in
-    let ew = c .before .before .before .before .before .before .before .before .before .before .before .before .before .wide2 .ensures in
-    let ef = c .before .before .before .before .before .before .before .before .before .before .before .before .wide3 .ensures in
-    let el = c .before .before .before .before .before .before .before .before .before .less .ensures in
-    let low = moves-in (width (s .args .p .line .left)) (c .before .before .before .before .before .before .before .before .before .before .before .before .before .wide2 .result + s .args .p .d) in
-    let n-is = c .before .before .before .passing .ensures .count in
-    omega (arith, low, n-is, move-in (s .args .p) o _ _ _ _ er ew ef el)
+cast-t22 c = let f = few (c .before .before .before) in omega (arith, f .0, f .1, f .2)
 
 add-t20 : tie.Need-add-t20
-add-t20 c =
-    let s = c .before .before .before .before .before .before .before .before .before .before .before .before .before .before .before .before .before .before .before in
-    let o = s .pre .0 in
-    let er = c .before .before .before .before .before .before .before .before .before .before .before .before .before .before .before .wide .ensures in
-    let ew = c .before .before .before .before .before .before .before .before .before .before .before .before .before .before .wide2 .ensures in
-    let ef = c .before .before .before .before .before .before .before .before .before .before .before .before .before .wide3 .ensures in
-    let el = c .before .before .before .before .before .before .before .before .before .before .less .ensures in
-    let low = moves-in (width (s .args .p .line .left)) (c .before .before .before .before .before .before .before .before .before .before .before .before .before .before .wide2 .result + s .args .p .d) in
-    let n-is = c .before .before .before .before .passing .ensures .count in
-    omega (arith, low, n-is, move-in (s .args .p) o _ _ _ _ er ew ef el)
+add-t20 c = let f = few (c .before .before .before .before) in omega (arith, f .0, f .1, f .2)
 
 cast-t24 : tie.Need-cast-t24
-cast-t24 c =
-    let s = c .before .before .before .before .before .before .before .before .before .before .before .before .before .before .before .before .before .before .before in
-    let o = s .pre .0 in
-    let er = c .before .before .before .before .before .before .before .before .before .before .before .before .before .before .before .wide .ensures in
-    let ew = c .before .before .before .before .before .before .before .before .before .before .before .before .before .before .wide2 .ensures in
-    let ef = c .before .before .before .before .before .before .before .before .before .before .before .before .before .wide3 .ensures in
-    let el = c .before .before .before .before .before .before .before .before .before .before .less .ensures in
-    let low = moves-in (width (s .args .p .line .left)) (c .before .before .before .before .before .before .before .before .before .before .before .before .before .before .wide2 .result + s .args .p .d) in
-    let n-is = c .before .before .before .before .passing .ensures .count in
-    omega (arith, low, n-is, move-in (s .args .p) o _ _ _ _ er ew ef el)
+cast-t24 c = let f = few (c .before .before .before .before) in omega (arith, f .0, f .1, f .2)
 
 cast-t25 : tie.Need-cast-t25
 cast-t25 c =
     let s = c .before .before .before .before .before .before .before .before .before .before .before .before .before .before .before .before .before .before .before .before in
-    let o = s .pre .0 in
-    let er = c .before .before .before .before .before .before .before .before .before .before .before .before .before .before .before .before .wide .ensures in
-    let ew = c .before .before .before .before .before .before .before .before .before .before .before .before .before .before .before .wide2 .ensures in
-    let ef = c .before .before .before .before .before .before .before .before .before .before .before .before .before .before .wide3 .ensures in
-    let el = c .before .before .before .before .before .before .before .before .before .before .before .less .ensures in
-    omega (arith, c .less2 .ensures, ef, o .together, few-d (s .args .p) o)
+    omega (arith, c .less2 .ensures, c .before .before .before .before .before .before .before .before .before .before .before .before .before .before .wide3 .ensures, s .pre .0 .together, few-d (s .args .p) (s .pre .0))
 
 returns : tie.Need-returns
 returns c =
