@@ -5,3 +5,4 @@ pub mod Points
 pub mod PacedLine
 pub mod PacedRefusals
 pub mod Hosts
+pub mod AnyCalls
