@@ -1,6 +1,6 @@
 -- What a file that is not refused gives the runs of its line, and what is answered after them.
 use mathlib.Core.Path.{_≡_, refl, sym, ap, subst}
-use mathlib.Core.Bool.{Bool, true, false, not, _&&_, true≢false}
+use mathlib.Core.Bool.{not}
 use mathlib.Core.List.{List}
 use Prim.Native.Nat.{ℕ, _+_, _*_, _/_, _%_, _<_, _≤_}
 use native.Mathlib.Omega.{arith}
@@ -17,12 +17,8 @@ use Rattle.linefile.specs.declared.reader.Contents.{Contents}
 use Rattle.linefile.specs.File.{bitsAt, countOf, bytesFor, lOf, dOf, settingsOf, readAnswer, contents}
 use Rattle.linefile.specs.Run.{lineOf, ranAnswer, ran, resultLeft}
 use Rattle.linefile.specs.Paces.{Paceable}
+use Rattle.linefile.proofs.Tests.{unless}
 use Rattle.linefile.proofs.Areas.{passed, formed, bits-inside, done, refused}
-
--- the other test decides where D is not 0
-unless : (a b : Bool) → not a && b ≡ false → a ≡ false → b ≡ false
-unless true b e h = absurd (true≢false h)
-unless false b e h = e
 
 module _ (s : List ℕ) (read : readAnswer s ≡ Answer.Done) where
   l-in : (1 ≤ lOf s) × (lOf s ≤ 11)

@@ -1,4 +1,4 @@
--- The earliest match in a stretch of line bits, and the last bits of all patterns in a stream.
+-- The earliest match in a stretch of line bits: a word in which the theorems on stretches are stated.
 use mathlib.Core.Bool.{Bool, true, false, cond}
 use mathlib.Core.List.{List, [], _∷_, _++_}
 use Prim.Native.Nat.{ℕ, suc, _-_}

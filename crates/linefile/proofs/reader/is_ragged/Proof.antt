@@ -1,3 +1,4 @@
+-- Where D is not 0 the remainder decides.
 use borrow.Author.Tests.{eq-eqb, ne-eqb}
 use borrow.Author.Needs.{needs}
 use Rattle.linefile.proofs.reader.is_ragged.Statement.{statement}
