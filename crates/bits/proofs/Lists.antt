@@ -69,6 +69,16 @@ small-take = under-take 2 (omega arith)
 pub small-append : (r s : List ℕ) → Small r → Small s → Small (r ++ s)
 small-append = under-append 2 (omega arith)
 
+-- and of each of the two
+pub small-left : (x y : List ℕ) → Small (x ++ y) → Small x
+small-left [] y h i = omega arith
+small-left (a ∷ x) y h zero = h zero
+small-left (a ∷ x) y h (suc i) = small-left x y (λ j. h (suc j)) i
+
+pub small-right : (x y : List ℕ) → Small (x ++ y) → Small y
+small-right [] y h = h
+small-right (a ∷ x) y h = small-right x y (λ j. h (suc j))
+
 pub small-one : (v : ℕ) → v < 2 → Small (v ∷ [])
 small-one = under-one 2 (omega arith)
 

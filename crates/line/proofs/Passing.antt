@@ -1,6 +1,6 @@
 -- An opening or a run whose input passes every test is done, and a line as it is opened passes them.
-use mathlib.Core.Path.{_≡_, refl, sym, ap}
-use mathlib.Core.Bool.{Bool, true, false, cond, _||_, true≢false}
+use mathlib.Core.Path.{_≡_, refl, sym}
+use mathlib.Core.Bool.{Bool, true, false, cond, _||_}
 use mathlib.Core.List.{List}
 use Prim.Native.Nat.{ℕ, _+_, _*_, _/_, _<_, _≤_}
 use native.Mathlib.Omega.{arith}
@@ -10,7 +10,7 @@ use borrow.Author.Tests.{eq-eqb, le-ltb, ltb-false}
 use Rattle.bits.proofs.Packed.{pack-none}
 use Rattle.refusal.specs.declared.Refusal.{Refusal}
 use Rattle.refusal.specs.declared.Answer.{Answer}
-use Rattle.refusal.specs.Numbers.{outcome}
+use Rattle.refusal.proofs.Answers.{refused-not-done}
 use Rattle.line.specs.declared.record.Line.{Line}
 use Rattle.line.specs.Free.{openAnswer, fresh, runAnswer}
 use Rattle.line.specs.Tests.{faulty}
@@ -28,16 +28,13 @@ opened-of key iv l e =
     let q = neither (ltb l 1) (ltb 11 l) (third (eqb (length key) 16) (eqb (length iv) 16) (ltb l 1 || ltb 11 l) e) in
     (ltb-false l 1 (q .0), ltb-false 11 l (q .1))
   where
-    differ : (r : Refusal) → Answer.Refused r ≡ Answer.Done → ⊥
-    differ r e = true≢false (ap (λ (a : Answer). outcome a false true) e)
-
     third : (a b c : Bool)
         → cond a (cond b (cond c (Answer.Refused (Refusal.Blackout)) (Answer.Done)) (Answer.Refused (Refusal.Iv))) (Answer.Refused (Refusal.Key)) ≡ Answer.Done
         → c ≡ false
     third true true false e = refl
-    third true true true e = absurd (differ _ e)
-    third true false c e = absurd (differ _ e)
-    third false b c e = absurd (differ _ e)
+    third true true true e = absurd (refused-not-done _ e)
+    third true false c e = absurd (refused-not-done _ e)
+    third false b c e = absurd (refused-not-done _ e)
 
 pub runs : (g : Line) (n : ℕ) (s d : List ℕ) → faulty g ≡ false → n ≤ 524288 → n ≤ 8 * length s → n ≤ 8 * length d → runAnswer g n s d ≡ Answer.Done
 unfolding runAnswer

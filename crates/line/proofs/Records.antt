@@ -10,11 +10,11 @@ use lib.Dec.{ltb, eqb}
 use lib.ListN.{length, take, drop, length-take}
 use lib.Pow.{split, pow-pos}
 use borrow.Author.Tests.{ltb-false, eqb-true, eq-eqb, lt-ltb, le-ltb, not-false}
-use Rattle.mode.specs.Rule.{after}
+use Rattle.mode.specs.Rule.{Blackout, after}
 use Rattle.mode.specs.Mode.{Settings, State, Bits}
 use Rattle.mode.specs.Blocks.{Position}
 use Rattle.mode.specs.Words.{Within, due, most}
-use Rattle.mode.proofs.Steps.{within-after, generator-keeps}
+use Rattle.mode.proofs.Steps.{blackout, within-after, generator-keeps}
 use Rattle.mode.proofs.Blocks.{onward-place}
 use Rattle.bits.specs.Bits.{bitsOf, pack, digits}
 use Rattle.bits.proofs.Lists.{Small, Bytes, small-take}
@@ -209,3 +209,7 @@ passes s g =
       eq-eqb (s .window / 2 ^ s .seen) 0 (div-eq-of-lt (g .window-in)),
       pack-blank 16 (s .iv) (s .collected) (g .iv-is),
     )
+
+-- its rule has the blackout laws that pacing asks for
+pub blackout-of : (s : Line) → 1 ≤ s .l → Blackout (ruleOf s) (s .l)
+blackout-of s low = blackout (aes (box s)) (settings s) (s .l) low refl

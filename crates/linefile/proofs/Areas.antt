@@ -1,6 +1,6 @@
 -- The areas of a file that is not refused lie inside it: what is malformed otherwise was tried.
 use mathlib.Core.Path.{_≡_, refl, sym, ap, _∙_}
-use mathlib.Core.Bool.{Bool, true, false, not, cond, true≢false}
+use mathlib.Core.Bool.{Bool, true, false, not, cond}
 use mathlib.Core.List.{List}
 use Prim.Native.Nat.{ℕ, _+_, _*_, _≤_}
 use native.Mathlib.Omega.{arith}
@@ -9,6 +9,7 @@ use lib.ListN.{length}
 use borrow.Author.Tests.{ltb-false, eqb-true, not-false}
 use Rattle.refusal.specs.declared.Refusal.{Refusal}
 use Rattle.refusal.specs.declared.Answer.{Answer}
+use Rattle.refusal.proofs.Answers.{refused-not-done}
 use Rattle.line.proofs.Records.{neither}
 use Rattle.linefile.specs.declared.reader.Contents.{Contents}
 use Rattle.linefile.specs.File.{statedLength, countOf, bitsAt, settingsAt, bytesFor, outside, overlapping, directionOf, dOf, lOf, ragged, malformed, blackoutRefused, rateRefused, readAnswer, settingsOf, contents}
@@ -56,13 +57,6 @@ formed s e =
       whole-ticks = p7 .1;
     }
 
-done-alone : (r : Refusal) → Answer.Refused r ≡ Answer.Done → ⊥
-done-alone r e = true≢false (ap told e)
-  where
-    told : Answer → Bool
-    told (Answer.Done) = false
-    told (Answer.Refused q) = true
-
 -- a file that is not refused passed every test
 pub record Passed (s : List ℕ) : Type 0 where
   pub is-formed : malformed s ≡ false
@@ -72,9 +66,9 @@ pub record Passed (s : List ℕ) : Type 0 where
 passes : (m b r : Bool)
     → cond m (Answer.Refused (Refusal.File)) (cond b (Answer.Refused (Refusal.Blackout)) (cond r (Answer.Refused (Refusal.Rate)) (Answer.Done))) ≡ Answer.Done
     → (m ≡ false) × (b ≡ false) × (r ≡ false)
-passes true b r e = absurd (done-alone _ e)
-passes false true r e = absurd (done-alone _ e)
-passes false false true e = absurd (done-alone _ e)
+passes true b r e = absurd (refused-not-done _ e)
+passes false true r e = absurd (refused-not-done _ e)
+passes false false true e = absurd (refused-not-done _ e)
 passes false false false e = (refl, refl, refl)
 
 pub passed : (s : List ℕ) → readAnswer s ≡ Answer.Done → Passed s

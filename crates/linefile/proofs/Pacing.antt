@@ -2,7 +2,7 @@
 -- rest, and that is the whole stream (`closing-sends-the-rest`).
 use mathlib.Core.Path.{_≡_, refl, sym, ap, subst, _∙_}
 use mathlib.Core.Bool.{false}
-use mathlib.Core.List.{List, [], _∷_, _++_, append-nil}
+use mathlib.Core.List.{List, [], _++_, append-nil}
 use Prim.Native.Nat.{ℕ, suc, _+_, _-_, _*_, _/_, _%_, _<_, _≤_}
 use native.Mathlib.Omega.{arith}
 use native.Mathlib.Nat.{suc-mul, div-add-mod', lt-of-mul-lt-mul-right, mul-le-mul-right}
@@ -10,7 +10,7 @@ use lib.ListN.{length, length-append}
 use Rattle.mode.specs.Rule.{Rule, Blackout, outs}
 use Rattle.mode.specs.Mode.{State}
 use Rattle.mode.specs.Blocks.{Position}
-use Rattle.mode.proofs.Steps.{blackout}
+use Rattle.mode.proofs.Runs.{length-outs}
 use Rattle.pace.specs.Tick.{Held, hold, opened, written, ticked, closing}
 use Rattle.pace.specs.Ticks.{joined, Each, ticks, sent}
 use Rattle.pace.proofs.More.{ticks-more, sent-more}
@@ -21,6 +21,7 @@ use Rattle.bits.proofs.Lists.{Small, small-take}
 use Rattle.bits.proofs.Parts.{small-part, length-part}
 use Rattle.bits.proofs.Laid.{length-laid, laid-laid, laid-nothing}
 use Rattle.line.proofs.Passing.{good-fresh}
+use Rattle.line.proofs.Records.{blackout-of}
 use Rattle.line.proofs.Running.{small-outs}
 use Rattle.paced.proofs.Records.{rate-low}
 use Rattle.paced.proofs.Reached.{viewed-reached, reached-passes}
@@ -72,15 +73,11 @@ module _ (c : Settings) (s : List ℕ) (from n : ℕ) (o₀ : List ℕ) where
     pub out : o ≡ laid o₀ 0 (gone k)
 
   module _ (byte : c .pattern < 256) (w : Paceable c (length s) from n (length o₀)) where
-    length-outs : (bs : List ℕ) (t : State (Position (List ℕ))) → length (outs R t bs) ≡ length bs
-    length-outs [] t = refl
-    length-outs (b ∷ bs) t = ap suc (length-outs bs (R .next t b))
-
     low-rate : D ≤ 117
     low-rate = rate-low D (c .l) (w .l-high) (w .slow)
 
     law : Blackout R (c .l)
-    law = blackout (aes (box (lineOf c))) (settings (lineOf c)) (c .l) (w .l-low) refl
+    law = blackout-of (lineOf c) (w .l-low)
 
     module _ (k : ℕ) (h : k * D ≤ n) where
       each : Each D (pieces s from D k)
@@ -133,7 +130,7 @@ module _ (c : Settings) (s : List ℕ) (from n : ℕ) (o₀ : List ℕ) where
 
     pub paced-length : (e : List ℕ) → e ≡ laid o₀ 0 (outs R start (part s from n)) → length e ≡ length o₀
     paced-length e ee =
-        let l : length (outs R start (part s from n)) ≡ n = length-outs (part s from n) start ∙ length-part s from n (w .there) in
+        let l : length (outs R start (part s from n)) ≡ n = length-outs R start (part s from n) ∙ length-part s from n (w .there) in
         ap length ee ∙ length-laid o₀ 0 (outs R start (part s from n)) (omega (arith, l, w .room))
 
     -- a whole tick is left where any bit is
@@ -231,7 +228,7 @@ module _ (c : Settings) (s : List ℕ) (from n : ℕ) (o₀ : List ℕ) where
         whole-count =
             sym (length-append (gone (a .k)) (closing R (held (a .k))))
             ∙ ap length (whole (a .k) there)
-            ∙ length-outs (part s from (a .k * D)) start
+            ∙ length-outs R start (part s from (a .k * D))
             ∙ length-part s from (a .k * D) (omega (arith, there, w .there))
             ∙ given-all
 

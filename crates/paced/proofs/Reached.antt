@@ -3,16 +3,15 @@
 use mathlib.Core.Path.{_≡_, refl, sym, ap, subst, _∙_}
 use mathlib.Core.Bool.{true, false}
 use mathlib.Core.List.{List, [], _∷_, _++_}
-use Prim.Native.Nat.{ℕ, zero, suc, _+_, _-_, _*_, _≤_}
+use Prim.Native.Nat.{ℕ, suc, _+_, _-_, _*_, _≤_}
 use native.Mathlib.Omega.{arith}
 use lib.ListN.{length, take, drop, length-append}
 use lib.Seq.{slice, take-at, drop-at, take-all, take-length}
 use Rattle.mode.specs.Rule.{Rule, Blackout, after, outs}
 use Rattle.mode.specs.Words.{Within}
-use Rattle.mode.proofs.Steps.{blackout}
 use Rattle.bits.specs.Bits.{bitsOf, pack, part}
 use Rattle.bits.specs.Blank.{blank}
-use Rattle.bits.proofs.Lists.{Small, small-append}
+use Rattle.bits.proofs.Lists.{Small, small-append, small-left, small-right}
 use Rattle.bits.proofs.Blank.{pack-blank}
 use Rattle.bits.proofs.Parts.{small-part}
 use Rattle.pace.specs.Tick.{Held, hold, opened, written, ticked, closing, closed}
@@ -24,7 +23,7 @@ use Rattle.line.specs.declared.record.Line.{Line}
 use Rattle.line.specs.Tests.{faulty as lineFaulty}
 use Rattle.line.specs.View.{box, aes, settings, ruleOf, view, holding}
 use Rattle.line.specs.Inner.{Good}
-use Rattle.line.proofs.Records.{bits-of, passes, holds, within-ran, view-holding, good-ran}
+use Rattle.line.proofs.Records.{blackout-of, bits-of, passes, holds, within-ran, view-holding, good-ran}
 use Rattle.line.proofs.Running.{small-outs}
 use Rattle.paced.specs.declared.record.Paced.{Paced}
 use Rattle.paced.specs.View.{viewed, keeping, shut}
@@ -36,15 +35,6 @@ use Rattle.paced.specs.Inner.{Open}
 use Rattle.paced.proofs.Records.{rate-low, slow-passes, open-passes}
 use Rattle.paced.proofs.Moves.{readyBits, waitingBits, length-ready-bits, length-waiting-bits}
 use Rattle.bits.proofs.Parts.{part-split, part-pack}
-
-small-left : (x y : List ℕ) → Small (x ++ y) → Small x
-small-left [] y h i = omega arith
-small-left (a ∷ x) y h zero = h zero
-small-left (a ∷ x) y h (suc i) = small-left x y (λ j. h (suc j)) i
-
-small-right : (x y : List ℕ) → Small (x ++ y) → Small y
-small-right [] y h = h
-small-right (a ∷ x) y h = small-right x y (λ j. h (suc j))
 
 -- ---- a record and what it holds
 
@@ -83,7 +73,7 @@ module _ (s : Line) (g : Good s) (scanning : s .left ≡ 0) (d : ℕ) (some : 1 
   R = ruleOf s
 
   law : Blackout R (s .l)
-  law = blackout (aes (box s)) (settings s) (s .l) (g .l-low) refl
+  law = blackout-of s (g .l-low)
 
   -- what the line holds after some ticks, and the record of it
   abbrev pub heldBy : List (List ℕ) → Held R

@@ -13,12 +13,11 @@ use Rattle.bits.specs.Bits.{part}
 use Rattle.bits.proofs.Lists.{Small, small-append}
 use Rattle.bits.proofs.Parts.{small-part, length-part}
 use Rattle.mode.specs.Rule.{Rule, outs, Blackout}
-use Rattle.mode.proofs.Steps.{blackout}
 use Rattle.line.specs.declared.record.Line.{Line}
-use Rattle.line.specs.View.{box, aes, settings, ruleOf, view}
+use Rattle.line.specs.View.{ruleOf, view}
 use Rattle.line.specs.Free.{fresh}
 use Rattle.line.specs.Inner.{Good}
-use Rattle.line.proofs.Records.{bits-of}
+use Rattle.line.proofs.Records.{blackout-of, bits-of}
 use Rattle.line.proofs.Passing.{good-fresh}
 use Rattle.pace.specs.Tick.{hold, Held, opened, written}
 use Rattle.pace.specs.Ticks.{sent, joined, Each}
@@ -47,7 +46,7 @@ module _ (s : Line) (good : Good s) (scanning : s .left ≡ 0) (D : ℕ) (some :
   P is = reached s good scanning D some rate is
 
   law : Blackout R (s .l)
-  law = blackout (aes (box s)) (settings s) (s .l) (good .l-low) refl
+  law = blackout-of s (good .l-low)
 
   walk : (cs : List Turn) (done : List (List ℕ)) → Each D done → Small (joined done) → Roomy D cs
       → (paced (P done) cs ≡ P (done ++ inputs D cs)) × (wrote (P done) cs ≡ sent R D (held done) (inputs D cs))

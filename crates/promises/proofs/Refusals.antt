@@ -1,7 +1,7 @@
 -- Demand 1: a call is refused exactly when 01's table says, with the number of the first test that holds; and a refused call keeps what it was given.
 use mathlib.Core.Path.{_≡_, refl, ap, _∙_}
 use mathlib.Core.Logic.{_↔_}
-use mathlib.Core.Bool.{Bool, true, false, not, cond, _||_, true≢false}
+use mathlib.Core.Bool.{Bool, true, false, not, cond, _||_}
 use mathlib.Core.List.{List, [], _∷_, _++_}
 use Prim.Native.Nat.{ℕ, _+_, _/_}
 use lib.Dec.{eqb, ltb}
@@ -9,6 +9,7 @@ use lib.ListN.{length, take, drop}
 use Rattle.refusal.specs.declared.Refusal.{Refusal}
 use Rattle.refusal.specs.declared.Answer.{Answer}
 use Rattle.refusal.specs.Numbers.{numberOf, outcome}
+use Rattle.refusal.proofs.Answers.{refused-not-done}
 use Rattle.aes.specs.Cipher.{aes128}
 use Rattle.aes.specs.Block.{answer as blockAnswer, after as blockAfter}
 use Rattle.line.specs.declared.record.Line.{Line}
@@ -29,11 +30,8 @@ None (t ∷ ts) = (t .holds ≡ false) × None ts
 done-or : (t : Test) (ts : List Test) → tried (t ∷ ts) ≡ Answer.Done → (t .holds ≡ false) × (tried ts ≡ Answer.Done)
 done-or t ts e = go (t .holds) refl e
   where
-    refused-differs : Answer.Refused (t .refusal) ≡ Answer.Done → ⊥
-    refused-differs q = true≢false (ap (λ (a : Answer). outcome a false true) q)
-
     go : (h : Bool) → t .holds ≡ h → cond h (Answer.Refused (t .refusal)) (tried ts) ≡ Answer.Done → (t .holds ≡ false) × (tried ts ≡ Answer.Done)
-    go true p q = absurd (refused-differs q)
+    go true p q = absurd (refused-not-done (t .refusal) q)
     go false p q = (p, q)
 
 -- a call is done exactly when no test holds
