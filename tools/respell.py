@@ -3,9 +3,9 @@
 
 usage: python3 tools/respell.py [FOLDER]      once, after port.py, on the tree as port.py left it; FOLDER is this one where none is given
 
-Every name of an .antt file that has a hyphen or is in camel case is turned, in .antt and .rt files and in must-fail edits; in comments and in pages
-(README.md, docs/) where it stands between backquotes or is in camel case. Names that start with a capital letter and have a hyphen lose the hyphen
-(Ticked-to, TickedTo). Names that the checker makes for proofs that walk the code (Need-.., After-..) are left: such a file is written anew. It prints
+Every name of an .antt file that has a hyphen or is in camel case is turned, in .antt and .rt files and in must-fail edits; in pages (README.md,
+docs/) where it stands between backquotes or is in camel case. Names that start with a capital letter and have a hyphen lose the hyphen
+(Ticked-to, TickedTo). Names of the toolchain's library keep their spelling. Names that the checker makes for proofs that walk the code (Need-.., After-..) are left: such a file is written anew. It prints
 the names that fall together: but for those of APART they are a definition and the function of src/ that gives it, or a name that an old proof has for a
 call of that function.
 """
@@ -16,7 +16,7 @@ import sys
 
 TOKEN = re.compile(r"(?<![A-Za-z0-9_'-])[A-Za-z_][A-Za-z0-9_']*(?:-[A-Za-z0-9_']+)*")
 MADE = re.compile(r"^(Need|Lts|After|Goes|Block)-")
-# a lemma whose name would fall together with a definition's takes another; (as port.py left it, today's)
+# a lemma whose name would fall together with that of a definition takes another (the name as port.py left it: the one it gets)
 APART = {
     "due_in": "due_in_is",
     "most-in": "most_in_is",
@@ -41,6 +41,15 @@ open-of open-spec opened-of part-at part-none place-in plus-none plus-one put-sp
 room-moved run-spec same-false same-length same-lines same-refl same-true small-of small-one step-spec take-min take-part tick-is tickAnswer
 under-drop under-one upTo within-both within-step write-spec written-count written-is writtenOf zero-bits
 """.split()
+
+
+KIT = (r"^\s*(?:pub )?use (?!Rattle\.(?:%s)\b)[^\s{;]+\.\{([^}]*)\}")
+
+
+def of_kit(text, crates):
+    """The names that a file takes from the toolchain's library."""
+    pattern = re.compile(KIT % "|".join(crates), re.M)
+    return {n.strip() for m in pattern.finditer(text) for n in m.group(1).split(",")}
 
 
 def code_of(path, text):
@@ -71,12 +80,19 @@ def main():
     root = sys.argv[1] if len(sys.argv) > 1 else "."
     crates = os.path.join(root, "crates")
     texts = {p: open(p, encoding="utf-8").read() for p in files(crates, (".antt", ".rt", ".edit"))}
+    names = sorted(os.listdir(crates))
+    kit = {p: of_kit(t, names) for p, t in texts.items()}
+    functions = {f.replace("_", "-") for p, t in texts.items() if p.endswith(".rt") for f in re.findall(r"\bfn (\w+)", t)}
     every, turned = set(), {}
     for p, t in texts.items():
         if p.endswith(".edit"):
             continue
+        walk = p.endswith("/Proof.antt")
+        declared = set(re.findall(r"(?m)^\s*(?:pub )?(?:abbrev |unfoldable )?(?:pub )?(?:let )?([^\s(){}]+)", t)) | functions
         for n in TOKEN.findall(code_of(p, t)):
             every.add(n)
+            if n in kit[p] or walk and n not in declared:
+                continue
             if p.endswith(".antt") and not MADE.match(n) and (n in APART or "-" in n or re.match(r"^[a-z][a-z0-9]*[A-Z]", n)):
                 turned[n] = respelled(n)
     together = {}
@@ -100,8 +116,8 @@ def main():
             m = re.search(r"(^|\s)" + mark, line) if not p.endswith(".edit") else None
             code, comment = (line[:m.start()], line[m.start():]) if m else (line, "")
             names = spoken if p.endswith(".edit") else turned
-            code = TOKEN.sub(lambda k: names.get(k.group(0), k.group(0)), code)
-            lines.append(code + prose(comment, spoken))
+            code = TOKEN.sub(lambda k: k.group(0) if k.group(0) in kit[p] else names.get(k.group(0), k.group(0)), code)
+            lines.append(code + TOKEN.sub(lambda k: spoken.get(k.group(0), k.group(0)), comment))
         write(p, t, "\n".join(lines))
     for p in [os.path.join(root, "README.md")] + list(files(os.path.join(root, "docs"), (".md",))):
         t = open(p, encoding="utf-8").read()

@@ -1,13 +1,13 @@
 -- The 44 words of FIPS 197's key expansion are the round keys 0 to 10, one after the other. Assumes nothing.
 use mathlib.Core.Path.{◌≡◌, refl, sym, ap, ◌∙◌}
 use mathlib.Core.Bool.{cond}
-use mathlib.Core.List.{List, [], ◌∷◌, ◌++◌, append_assoc, append_nil, flatten}
+use mathlib.Core.List.{List, [], ◌∷◌, ◌++◌, append_assoc, append-nil, flatten}
 use Prim.Native.Nat.{ℕ, zero, suc, ◌+◌, ◌-◌, ◌*◌, ◌/◌, ◌%◌, ◌≤◌}
-use native.Mathlib.Nat.{add_zero, add_suc, suc_add}
+use native.Mathlib.Nat.{add-zero, add-suc, suc-add}
 use native.Mathlib.Omega.{arith}
 use lib.Dec.{eqb}
-use lib.ListN.{length, get_or, length_append}
-use lib.Seq.{get_or_append_add}
+use lib.ListN.{length, get_or, length-append}
+use lib.Seq.{get_or-append-add}
 use Rattle.aes.specs.State.{Word, many, to_words}
 use Rattle.aes.specs.KeyExpansion.{xor_word, sub_word, rot_word, rcon, next_key, round_key, key_expansion}
 use Rattle.aes.specs.WordByWord.{temp, next_word, expansion}
@@ -21,12 +21,12 @@ word l n m =
 past : (p l : List Word) (n j k : ℕ) → length p ≡ 4 * n → k ≡ 4 * n + j → get_or (p ++ l) k [] ≡ get_or l j []
 past p l n j k hp hk =
     let e : k ≡ length p + j = omega arith in
-    rw e (get_or_append_add p l j [])
+    rw e (get_or-append-add p l j [])
 
 step : (p l : List Word) (n m : ℕ) → length p ≡ 4 * n → length l ≡ m → 4 ≤ m → next_word (p ++ l) ≡ p ++ (l ++ (word l n m ∷ []))
 unfolding next_word temp
 step p l n m hp hl hm =
-    let z : length (p ++ l) ≡ 4 * n + m = length_append p l ∙ (omega arith) in
+    let z : length (p ++ l) ≡ 4 * n + m = length-append p l ∙ (omega arith) in
     let a : (4 * n + m) % 4 ≡ m % 4 = omega arith in
     let b : (4 * n + m) / 4 - 1 ≡ n + m / 4 - 1 = omega arith in
     let c : get_or (p ++ l) (4 * n + m - 4) [] ≡ get_or l (m - 4) [] = past p l n (m - 4) (4 * n + m - 4) hp (omega arith) in
@@ -73,7 +73,7 @@ keys_length w e zero = refl
 keys_length w e (suc n) =
     let i : length (keys w n) ≡ 4 * n = keys_length w e n in
     let k : length (round_key w n) ≡ 4 = ap length (four_key w e n) in
-    length_append (keys w n) (round_key w n) ∙ (omega arith)
+    length-append (keys w n) (round_key w n) ∙ (omega arith)
 
 abbrev quads : List Word → ℕ → List Word
 quads w zero = w
@@ -93,11 +93,11 @@ by_quads w = refl
 -- the round keys as a list of lists, joined
 joined : (w : List Word) (k n : ℕ) → keys w n ++ flatten (many (round_key w) n k) ≡ keys w (n + k)
 unfolding flatten
-joined w zero n = append_nil (keys w n) ∙ ap (keys w) (sym (add_zero n))
+joined w zero n = append-nil (keys w n) ∙ ap (keys w) (sym (add-zero n))
 joined w (suc k) n =
     sym (append_assoc (keys w n) (round_key w n) (flatten (many (round_key w) (suc n) k)))
     ∙ joined w k (suc n)
-    ∙ ap (keys w) (suc_add n k ∙ sym (add_suc n k))
+    ∙ ap (keys w) (suc-add n k ∙ sym (add-suc n k))
 
 -- the document's 44 words
 pub word_by_word : (key : List ℕ) → expansion (to_words key) 40 ≡ flatten (key_expansion key)

@@ -3,8 +3,8 @@
 use mathlib.Core.Path.{◌≡◌, sym, ap, ◌∙◌}
 use mathlib.Core.List.{List, [], ◌∷◌}
 use mathlib.Core.Bool.{Bool}
-use Prim.Native.Nat.{ℕ, zero, suc, ◌<◌, zero_le, suc_le_suc}
-use native.Mathlib.Nat.{le_of_suc_le_suc, not_suc_le_zero}
+use Prim.Native.Nat.{ℕ, zero, suc, ◌<◌, zero-le, suc-le-suc}
+use native.Mathlib.Nat.{le_of_suc-le-suc, not-suc-le-zero}
 use lib.Dec.{T, eqb, eqb→eq}
 use lib.ListN.{get_or, drop}
 use Rattle.aes.specs.Field.{xtime, low, product, ◌•◌}
@@ -49,10 +49,10 @@ unfolding xtime low product ◌•◌
 ones = tt
 
 pub inverse_right : (b : ℕ) → 0 < b → b < 256 → b • inverse b ≡ 1
-inverse_right zero h l = absurd (not_suc_le_zero h)
+inverse_right zero h l = absurd (not-suc-le-zero h)
 inverse_right (suc b) h l =
     ap (λ (x : ℕ). suc b • x) (sym (inverse_at (suc b) l))
-    ∙ eqb→eq (suc b • get_or (drop 1 inverses) b 0) 1 (at one (drop 1 inverses) ones b (le_of_suc_le_suc l))
+    ∙ eqb→eq (suc b • get_or (drop 1 inverses) b 0) 1 (at one (drop 1 inverses) ones b (le_of_suc-le-suc l))
 
 pub inverse_zero : inverse 0 ≡ 0
-inverse_zero = sym (inverse_at 0 (suc_le_suc zero_le))
+inverse_zero = sym (inverse_at 0 (suc-le-suc zero-le))

@@ -3,10 +3,10 @@
 use mathlib.Core.Path.{◌≡◌, refl, ap, sym, ◌∙◌}
 use mathlib.Core.List.{List, [], ◌∷◌, ◌++◌, map}
 use Prim.Native.Nat.{ℕ, zero, suc, ◌+◌, ◌<◌}
-use native.Mathlib.Nat.{zero_add}
-use native.Mathlib.Numerals.{add_one}
+use native.Mathlib.Nat.{zero-add}
+use native.Mathlib.Numerals.{add-one}
 use native.Mathlib.Omega.{arith}
-use lib.ListN.{length, get_or, set, take, drop, replicate, get_or_map}
+use lib.ListN.{length, get_or, set, take, drop, replicate, get_or-map}
 use Rattle.aes.specs.State.{State, Word, many, columns, to_words, to_state, from_state}
 use Rattle.aes.specs.Steps.{sub_bytes, shift_rows, mix_columns, add_round_key}
 use Rattle.aes.specs.KeyExpansion.{xor_word, next_key, rcon, round_key, key_expansion}
@@ -54,7 +54,7 @@ pub rounded : (ks : List State) (s₀ s x : State) (i : ℕ) → s ≡ rounds (m
     → x ≡ rounds (map columns ks) s₀ (i + 1)
 unfolding rounds round_of
 rounded ks s₀ s x i es ex =
-    ex ∙ key_at (mix_columns (shift_rows (sub_bytes s))) ks (i + 1) ∙ rw (es, add_one)
+    ex ∙ key_at (mix_columns (shift_rows (sub_bytes s))) ks (i + 1) ∙ rw (es, add-one)
 
 -- the whole cipher, step by step
 pub ciphered : (ks : List State) (block r : List ℕ) (a s₀ s b d e : State) (i : ℕ) → a ≡ to_state block → s₀ ≡ add_round_key a (columns (get_or ks 0 []))
@@ -73,7 +73,7 @@ laid_length : (w : List Word) → length (laid w) ≡ 11
 laid_length w = refl
 
 laid_at : (w : List Word) (i : ℕ) → i < 11 → get_or (laid w) i (columns []) ≡ columns (round_key w i)
-laid_at w i h = get_or_map columns (many (round_key w) 0 11) i [] ∙ ap columns (many_at (round_key w) [] 0 11 i h ∙ ap (round_key w) (zero_add i))
+laid_at w i h = get_or-map columns (many (round_key w) 0 11) i [] ∙ ap columns (many_at (round_key w) [] 0 11 i h ∙ ap (round_key w) (zero-add i))
 
 -- the list before the first turn of the expansion
 pub laid_first : (w : List Word) (p : State) → p ≡ columns w → replicate 11 p ≡ take 1 (laid w) ++ drop 1 (replicate 11 p)
@@ -83,7 +83,7 @@ laid_first w p e = ap (λ (x : State). x ∷ replicate 10 p) e
 -- the next round key
 pub next_key_is : (w₀ w n : List Word) (c i : ℕ) → w ≡ round_key w₀ i → c ≡ rcon i → n ≡ next_key w c → n ≡ round_key w₀ (i + 1)
 unfolding round_key
-next_key_is w₀ w n c i ew ec en = rw (en, ew, ec, add_one)
+next_key_is w₀ w n c i ew ec en = rw (en, ew, ec, add-one)
 
 -- the list with one round key more
 pub laid_more : (d ks : List State) (p : State) (w₀ n : List Word) (i : ℕ) → i < 10 → length d ≡ 11 → ks ≡ take (i + 1) (laid w₀) ++ drop (i + 1) d

@@ -5,13 +5,13 @@ use mathlib.Core.List.{List, [], ◌∷◌, ◌++◌}
 use Prim.Native.Nat.{ℕ, zero, suc, ◌+◌, ◌-◌, ◌*◌, ◌/◌, ◌%◌, ◌<◌, ◌≤◌}
 use native.Mathlib.Omega.{arith}
 use native.Mathlib.Decide.{dec_lt}
-use lib.ListN.{length, get_or, take, drop, length_take, take_append_drop, drop_of_length_le, get_or_eq_default}
-use lib.Seq.{get_or_drop, drop_drop, drop_cons, ext_get_or}
+use lib.ListN.{length, get_or, take, drop, length-take, take-append-drop, drop_of_length-le, get_or-eq_default}
+use lib.Seq.{get_or-drop, drop-drop, drop-cons, ext_get_or}
 use lib.Dec.{eqb}
-use borrow.Author.Tests.{eqb_true, eq_eqb}
+use borrow.Author.Tests.{eqb-true, eq-eqb}
 use Rattle.bits.specs.Bits.{bits_of, byte_of, pack, part, digits}
 use Rattle.bits.specs.Blank.{blank}
-use native.Mathlib.Numerals.{add_one}
+use native.Mathlib.Numerals.{add-one}
 use Rattle.bits.proofs.Lists.{Small, Bytes, Alike, zeros, small_take}
 use Rattle.bits.proofs.Digits.{length_digits, digits_zero, digits_same}
 use Rattle.bits.proofs.Parts.{small_part, short_part}
@@ -21,7 +21,7 @@ split : {P : Type 0} (x : ℕ) (b : List ℕ) → cond (eqb x 0) (blank b) false
 split {P} x b e f = go (eqb x 0) refl e
   where
     go : (t : Bool) → eqb x 0 ≡ t → cond t (blank b) false ≡ true → P
-    go true q h = f (eqb_true x 0 q) h
+    go true q h = f (eqb-true x 0 q) h
     go false q h = absurd (true≢false (sym h))
 
 pub blank_at : (b : List ℕ) → blank b ≡ true → (i : ℕ) → get_or b i 0 ≡ 0
@@ -33,7 +33,7 @@ blank_at (x ∷ b) e (suc i) = split x b e (λ _ q. blank_at b q i)
 pub blank_of : (b : List ℕ) → ((i : ℕ) → get_or b i 0 ≡ 0) → blank b ≡ true
 unfolding blank
 blank_of [] h = refl
-blank_of (x ∷ b) h = rw (eq_eqb x 0 (h 0)) (blank_of b (λ i. h (suc i)))
+blank_of (x ∷ b) h = rw (eq-eqb x 0 (h 0)) (blank_of b (λ i. h (suc i)))
 
 take_blank : (n : ℕ) (b : List ℕ) → blank (drop n b) ≡ true → Alike (take n b) b
 take_blank zero b e i = sym (blank_at b e i)
@@ -49,13 +49,13 @@ blank_pack k s n e h c =
 pub pack_blank : (k : ℕ) (s : List ℕ) (n : ℕ) → s ≡ pack k (take n (bits_of s)) → blank (drop n (bits_of s)) ≡ true
 pack_blank k s n e =
     let r : List ℕ = take n (bits_of s) in
-    let few : length r ≤ n = simp length_take (omega arith) in
+    let few : length r ≤ n = simp length-take (omega arith) in
     let long : length (bits_of s) ≡ 8 * k = length_bits s ∙ ap (λ (l : List ℕ). 8 * length l) e ∙ ap (λ (j : ℕ). 8 * j) (length_pack k r) in
     blank_of (drop n (bits_of s))
-    (λ i. get_or_drop n (bits_of s) i 0
+    (λ i. get_or-drop n (bits_of s) i 0
     ∙ elim (dec_lt (n + i) (8 * k)) [
-      | yes lt ↦ ap (λ (l : List ℕ). get_or (bits_of l) (n + i) 0) e ∙ bits_pack_at k r (n + i) (small_take n (bits_of s) (small_bits s)) lt ∙ get_or_eq_default r 0 {n = n + i} (omega arith)
-      | no ge ↦ get_or_eq_default (bits_of s) 0 {n = n + i} (omega arith)
+      | yes lt ↦ ap (λ (l : List ℕ). get_or (bits_of l) (n + i) 0) e ∙ bits_pack_at k r (n + i) (small_take n (bits_of s) (small_bits s)) lt ∙ get_or-eq_default r 0 {n = n + i} (omega arith)
+      | no ge ↦ get_or-eq_default (bits_of s) 0 {n = n + i} (omega arith)
     ])
 
 -- ---- the test goes by bytes: the rest of the first one, and then whole ones
@@ -88,7 +88,7 @@ few_blank r h few e =
     blank_of r
     (λ i. elim (dec_lt i 8) [
       | yes lt ↦ sym (bits_pack_at 1 r i h (omega arith)) ∙ ap (λ (x : ℕ). get_or (bits_of (x ∷ [])) i 0) e ∙ zero_bits i
-      | no ge ↦ get_or_eq_default r 0 {n = i} (omega arith)
+      | no ge ↦ get_or-eq_default r 0 {n = i} (omega arith)
     ])
   where
     zero_bits : (i : ℕ) → get_or (bits_of (0 ∷ [])) i 0 ≡ 0
@@ -111,8 +111,8 @@ module _ (s : List ℕ) where
   unfolding part
   split_first from =
       let e : from + (8 - from % 8) ≡ 8 * (from / 8 + 1) = omega arith in
-      sym (take_append_drop (8 - from % 8) (drop from (bits_of s)))
-      ∙ ap (λ (l : List ℕ). take (8 - from % 8) (drop from (bits_of s)) ++ l) (drop_drop (8 - from % 8) from (bits_of s) ∙ ap (λ (k : ℕ). drop k (bits_of s)) e)
+      sym (take-append-drop (8 - from % 8) (drop from (bits_of s)))
+      ∙ ap (λ (l : List ℕ). take (8 - from % 8) (drop from (bits_of s)) ++ l) (drop-drop (8 - from % 8) from (bits_of s) ∙ ap (λ (k : ℕ). drop k (bits_of s)) e)
 
   module _ (from : ℕ) (first : ℕ) (f : first ≡ byte_of (part s from (8 - from % 8))) where
     few : length (part s from (8 - from % 8)) ≤ 8
@@ -132,8 +132,8 @@ module _ (s : List ℕ) where
     byte_split : blank (drop (8 * i) (bits_of s)) ≡ cond (blank (digits 8 (get_or s i 0))) (blank (drop (8 * (i + 1)) (bits_of s))) false
     byte_split =
         let e : drop (8 * i) (bits_of s) ≡ digits 8 (get_or s i 0) ++ drop (8 * (i + 1)) (bits_of s) =
-        bits_drop i s ∙ ap bits_of (drop_cons s i 0 lt) ∙ bits_byte (get_or s i 0) (drop (suc i) s)
-        ∙ ap (λ (l : List ℕ). digits 8 (get_or s i 0) ++ l) (sym (bits_drop (suc i) s) ∙ ap (λ (k : ℕ). drop (8 * k) (bits_of s)) (sym (add_one i))) in
+        bits_drop i s ∙ ap bits_of (drop-cons s i 0 lt) ∙ bits_byte (get_or s i 0) (drop (suc i) s)
+        ∙ ap (λ (l : List ℕ). digits 8 (get_or s i 0) ++ l) (sym (bits_drop (suc i) s) ∙ ap (λ (k : ℕ). drop (8 * k) (bits_of s)) (sym (add-one i))) in
         ap blank e ∙ blank_append (digits 8 (get_or s i 0)) (drop (8 * (i + 1)) (bits_of s))
 
     pub next_blank : get_or s i 0 ≡ 0 → blank (drop (8 * (i + 1)) (bits_of s)) ≡ blank (drop (8 * i) (bits_of s))
@@ -145,4 +145,4 @@ module _ (s : List ℕ) where
 
   pub end_blank : (i : ℕ) → length s ≤ i → true ≡ blank (drop (8 * i) (bits_of s))
   unfolding blank
-  end_blank i h = sym (ap blank (drop_of_length_le (bits_of s) {i = 8 * i} (rw (length_bits s) (omega arith))))
+  end_blank i h = sym (ap blank (drop_of_length-le (bits_of s) {i = 8 * i} (rw (length_bits s) (omega arith))))

@@ -1,16 +1,16 @@
 -- A number's binary digits: they split where its quotient and remainder by a power of two do. So digits tell a number, and a number its digits. Assumes nothing.
---     digits-split      the digits above a place are those of the quotient
---     digits-at         each digit
+--     digits_split      the digits above a place are those of the quotient
+--     digits_at         each digit
 --     number_digits, digits_number      one way and back
---     number-below      how large a number some digits make
+--     number_below      how large a number some digits make
 use mathlib.Core.Path.{◌≡◌, refl, sym, ap, ◌∙◌}
-use mathlib.Core.List.{List, [], ◌∷◌, ◌++◌, append_assoc, append_nil}
+use mathlib.Core.List.{List, [], ◌∷◌, ◌++◌, append_assoc, append-nil}
 use Prim.Native.Nat.{ℕ, zero, suc, ◌+◌, ◌-◌, ◌*◌, ◌/◌, ◌%◌, ◌^◌, ◌<◌, ◌≤◌}
-use native.Mathlib.Nat.{div_one, le_trans, mul_le_mul_right, mul_assoc, mul_comm}
+use native.Mathlib.Nat.{div-one, le_trans, mul-le-mul_right, mul_assoc, mul_comm}
 use native.Mathlib.Omega.{arith}
-use lib.ListN.{length, get_or, take, drop, length_append, get_or_append, replicate_append_replicate}
+use lib.ListN.{length, get_or, take, drop, length-append, get_or-append, replicate-append-replicate}
 use lib.Seq.{take_at, drop_at, get_or_at}
-use lib.Pow.{field, mod_mod_pow, shr_shr, pow_add}
+use lib.Pow.{field, mod-mod-pow, shr-shr, pow-add}
 use Rattle.bits.specs.Bits.{digits, number_on, number}
 use Rattle.bits.proofs.Lists.{Small, zeros, small_append, small_one}
 
@@ -26,7 +26,7 @@ digits_more n x = refl
 pub length_digits : (n x : ℕ) → length (digits n x) ≡ n
 unfolding digits
 length_digits zero x = refl
-length_digits (suc n) x = simp length_append (let e : length (digits n (x / 2)) ≡ n = length_digits n (x / 2) in omega arith)
+length_digits (suc n) x = simp length-append (let e : length (digits n (x / 2)) ≡ n = length_digits n (x / 2) in omega arith)
 
 pub digits_push : (n w v : ℕ) → v < 2 → digits (suc n) (w * 2 + v) ≡ digits n w ++ (v ∷ [])
 unfolding digits
@@ -40,11 +40,11 @@ pub digits_split : (n a b x : ℕ) → n ≡ a + b → digits n x ≡ digits a (
 unfolding digits
 digits_split n a zero x e =
     let q : n ≡ a = omega arith in
-    rw (q, div_one x) (sym (append_nil (digits a x)))
+    rw (q, div-one x) (sym (append-nil (digits a x)))
 digits_split zero a (suc b) x e = absurd (omega arith)
 digits_split (suc n) a (suc b) x e =
     let k : 1 + b ≡ suc b = omega arith in
-    let q : x / 2 / 2 ^ b ≡ x / 2 ^ suc b = rw k at (shr_shr x 1 b) in
+    let q : x / 2 / 2 ^ b ≡ x / 2 ^ suc b = rw k at (shr-shr x 1 b) in
     ap (λ (l : List ℕ). l ++ (x % 2 ∷ [])) (digits_split n a b (x / 2) (omega arith) ∙ ap (λ (y : ℕ). digits a y ++ digits b (x / 2)) q)
     ∙ append_assoc (digits a (x / 2 ^ suc b)) (digits b (x / 2)) (x % 2 ∷ [])
 
@@ -63,7 +63,7 @@ unfolding digits
 digits_at n x i h =
     let y : ℕ = x / 2 ^ (n - 1 - i) in
     ap (λ (l : List ℕ). get_or l i 0) (digits_split n (suc i) (n - 1 - i) x (omega arith))
-    ∙ get_or_append (digits (suc i) y) (digits (n - 1 - i) x) 0 i (let e : length (digits (suc i) y) ≡ suc i = length_digits (suc i) y in omega arith)
+    ∙ get_or-append (digits (suc i) y) (digits (n - 1 - i) x) 0 i (let e : length (digits (suc i) y) ≡ suc i = length_digits (suc i) y in omega arith)
     ∙ get_or_at (digits i (y / 2)) (y % 2) [] 0 i (length_digits i (y / 2))
 
 pub digits_mod : (n x : ℕ) → digits n (x % 2 ^ n) ≡ digits n x
@@ -72,7 +72,7 @@ digits_mod zero x = refl
 digits_mod (suc n) x =
     let e : n + 1 ≡ suc n = omega arith in
     let q : x % 2 ^ suc n / 2 ≡ x / 2 % 2 ^ n = rw e at (field x n 1) in
-    let r : x % 2 ^ suc n % 2 ≡ x % 2 = rw e at (mod_mod_pow x n 1) in
+    let r : x % 2 ^ suc n % 2 ≡ x % 2 = rw e at (mod-mod-pow x n 1) in
     rw (q, r, digits_mod n (x / 2))
 
 pub digits_zero : (n : ℕ) → digits n 0 ≡ zeros n
@@ -80,7 +80,7 @@ unfolding digits
 digits_zero zero = refl
 digits_zero (suc n) =
     let e : n + 1 ≡ suc n = omega arith in
-    ap (λ (l : List ℕ). l ++ (0 ∷ [])) (digits_zero n) ∙ replicate_append_replicate n 1 0 ∙ ap zeros e
+    ap (λ (l : List ℕ). l ++ (0 ∷ [])) (digits_zero n) ∙ replicate-append-replicate n 1 0 ∙ ap zeros e
 
 pub small_digits : (n x : ℕ) → Small (digits n x)
 unfolding digits
@@ -109,7 +109,7 @@ digits_same n x y hx hy e = sym (number_digits n x hx) ∙ ap number e ∙ numbe
 
 digits_number_on : (l : List ℕ) (k a n : ℕ) → Small l → n ≡ k + length l → digits n (number_on a l) ≡ digits k a ++ l
 unfolding number_on
-digits_number_on [] k a n h e = let q : n ≡ k = omega arith in rw q (sym (append_nil (digits k a)))
+digits_number_on [] k a n h e = let q : n ≡ k = omega arith in rw q (sym (append-nil (digits k a)))
 digits_number_on (v ∷ l) k a n h e =
     digits_number_on l (suc k) (a * 2 + v) n (λ i. h (suc i)) (omega arith)
     ∙ ap (λ (d : List ℕ). d ++ l) (digits_push k a v (h 0))
@@ -126,9 +126,9 @@ number_on_below [] a h = omega arith
 number_on_below (v ∷ l) a h =
     let v2 : v < 2 = h 0 in
     let P : ℕ = 2 ^ length l in
-    let le : (a * 2 + v + 1) * P ≤ (a * 2 + 2) * P = mul_le_mul_right P (omega arith) in
+    let le : (a * 2 + v + 1) * P ≤ (a * 2 + 2) * P = mul-le-mul_right P (omega arith) in
     let q : suc (length l) ≡ length l + 1 = omega arith in
-    let e : 2 ^ suc (length l) ≡ P * 2 = ap (λ (k : ℕ). 2 ^ k) q ∙ pow_add 2 (length l) 1 in
+    let e : 2 ^ suc (length l) ≡ P * 2 = ap (λ (k : ℕ). 2 ^ k) q ∙ pow-add 2 (length l) 1 in
     let on : number_on (a * 2 + v) l < (a * 2 + v + 1) * P = number_on_below l (a * 2 + v) (λ i. h (suc i)) in
     let r : a * 2 + 2 ≡ (a + 1) * 2 = omega arith in
     let whole : (a * 2 + 2) * P ≡ (a + 1) * 2 ^ suc (length l) =

@@ -1,14 +1,14 @@
 -- The last byte touched: its bits past the end become 0. So octets that go on past the end, and are cleared from there on, are the bits asked for. Assumes nothing.
---     clear-byte        the code's way to clear
---     draw-is, read_is, write-is     what `draw`, `read` and `write` give, from what the steps in them ensure
+--     clear_byte        the code's way to clear
+--     draw_is, read_is, write_is     what `draw`, `read` and `write` give, from what the steps in them ensure
 use mathlib.Core.Path.{◌≡◌, refl, sym, ap, ◌∙◌}
-use mathlib.Core.List.{List, [], ◌∷◌, ◌++◌, append_nil}
+use mathlib.Core.List.{List, [], ◌∷◌, ◌++◌, append-nil}
 use Prim.Native.Nat.{ℕ, min, ◌+◌, ◌-◌, ◌*◌, ◌/◌, ◌%◌, ◌^◌, ◌≤◌, ◌<◌}
-use native.Mathlib.Numerals.{add_one}
+use native.Mathlib.Numerals.{add-one}
 use native.Mathlib.Decide.{dec_lt}
 use native.Mathlib.Omega.{arith}
-use lib.ListN.{length, get_or, take, drop, set, length_append, length_take, drop_of_length_le}
-use lib.Seq.{set_split, take_append_le, take_append_add, take_at, drop_at, drop_drop, length_take_le}
+use lib.ListN.{length, get_or, take, drop, set, length-append, length-take, drop_of_length-le}
+use lib.Seq.{set_split, take-append-le, take-append-add, take_at, drop_at, drop-drop, length-take-le}
 use Rattle.bits.specs.Bits.{bits_of, pack, part, laid, wrote, digits}
 use Rattle.bits.proofs.Lists.{Small, Bytes, zeros, drop_zeros, small_append, alike_take, bytes_take, bytes_drop, bytes_append}
 use Rattle.bits.proofs.Digits.{length_digits, small_digits}
@@ -25,8 +25,8 @@ clear_byte d j e top v h lt some few et ev =
     let bits : digits e top ≡ take e (bits_of (drop j d)) = top_bits d j e (get_or d j 0) top h (omega arith) (omega arith) (omega arith) refl et in
     set_split d j v lt
     ∙ ap (λ (l : List ℕ). take j d ++ l)
-    ((λ i. cleared i ++ ap (λ (n : ℕ). drop n d) (sym (add_one j)) i)
-    ∙ (λ i. pack 1 (bits i ++ []) ++ sym (drop_drop 1 j d) i)
+    ((λ i. cleared i ++ ap (λ (n : ℕ). drop n d) (sym (add-one j)) i)
+    ∙ (λ i. pack 1 (bits i ++ []) ++ sym (drop-drop 1 j d) i)
     ∙ sym (laid_is (drop j d) e [] 1 (omega arith)))
     ∙ sym (laid_from d j e [] h (omega arith))
   where
@@ -39,9 +39,9 @@ cut_packed k m r d e h =
     let n : m ≤ length (bits_of (pack k r)) = omega (arith, length_bits (pack k r), length_pack k r) in
     let z : k ≡ (m + 0 + 7) / 8 = omega arith in
     let bits : take m (bits_of (pack k r ++ d)) ++ [] ≡ take m (bits_of (pack k r)) =
-    append_nil (take m (bits_of (pack k r ++ d)))
+    append-nil (take m (bits_of (pack k r ++ d)))
     ∙ ap (take m) (bits_append (pack k r) d)
-    ∙ take_append_le m (bits_of (pack k r)) (bits_of d) n in
+    ∙ take-append-le m (bits_of (pack k r)) (bits_of d) n in
     laid_is (pack k r ++ d) m [] k z
     ∙ (λ i. pack k (bits i) ++ drop_at (pack k r) d k (length_pack k r) i)
     ∙ ap (λ (l : List ℕ). l ++ d) (pack_alike k (take m (bits_of (pack k r))) (take m r) (alike_take (bits_of (pack k r)) r m (λ i lt. bits_pack_at k r i h (omega arith))))
@@ -56,10 +56,10 @@ pub draw_is : (s : List ℕ) (from high n : ℕ) (d u : List ℕ) → high ≡ g
 draw_is s from high n d u eh en eu =
     let f : 8 * (from / 8) + from % 8 ≡ from = omega arith in
     let o : n - 0 ≡ length d = omega arith in
-    let none : drop n d ≡ [] = drop_of_length_le d {i = n} (omega arith) in
+    let none : drop n d ≡ [] = drop_of_length-le d {i = n} (omega arith) in
     eu
     ∙ (λ i. pack (o i) (coming (8 - from % 8) (eh i) (drop (from / 8 + 1) s)) ++ none i)
-    ∙ append_nil (pack (length d) (coming (8 - from % 8) (get_or s (from / 8) 0) (drop (from / 8 + 1) s)))
+    ∙ append-nil (pack (length d) (coming (8 - from % 8) (get_or s (from / 8) 0) (drop (from / 8 + 1) s)))
     ∙ pack_alike (length d) (coming (8 - from % 8) (get_or s (from / 8) 0) (drop (from / 8 + 1) s)) (drop (8 * (from / 8) + from % 8) (bits_of s)) (coming_from s (from / 8) (from % 8) (omega arith))
     ∙ ap (λ (j : ℕ). pack (length d) (drop j (bits_of s))) f
 
@@ -88,7 +88,7 @@ read_is s from n m high u v em eh eu ev =
     ∙ (λ i. laid ((eu ∙ ap (λ (j : ℕ). pack j c ++ drop k (zeros 16)) o) i) (z i) [])
     ∙ cut_packed k m c (drop k (zeros 16)) refl (small_coming (8 - from % 8) high (drop (from / 8 + 1) s))
     ∙ (λ i. same i ++ drop_zeros k (16 - k) 16 w i)
-    ∙ sym (pack_rest 16 k (16 - k) (take m p) w (simp length_take (omega arith)))
+    ∙ sym (pack_rest 16 k (16 - k) (take m p) w (simp length-take (omega arith)))
     ∙ elim (dec_lt 128 n) [
       | yes more ↦ pack_take 16 m p (omega arith) ∙ sym (pack_take 16 n p (omega arith))
       | no all ↦ (let e : m ≡ n = omega arith in ap (λ (j : ℕ). pack 16 (take j p)) e)
@@ -110,16 +110,16 @@ write_is d at b n end byte top u v hd hb hn ee fits eb et eu ev =
     let z : at ≡ 8 * j + k = omega arith in
     let y : 8 * (j + (k + n) / 8) + (k + n) % 8 ≡ 8 * j + (k + n) = omega arith in
     let w : end - j ≡ m = omega arith in
-    let lr : length r ≡ n = length_take_le n (bits_of b) (rw length_bits (omega arith)) in
-    let lj : length (take j d) ≡ j = length_take_le j d (omega arith) in
+    let lr : length r ≡ n = length-take-le n (bits_of b) (rw length_bits (omega arith)) in
+    let lj : length (take j d) ≡ j = length-take-le j d (omega arith) in
     let t : List ℕ = pack m c ++ drop m (drop j d) in
-    let later : drop end d ≡ drop m (drop j d) = ap (λ (i : ℕ). drop i d) ee ∙ sym (drop_drop m j d) in
+    let later : drop end d ≡ drop m (drop j d) = ap (λ (i : ℕ). drop i d) ee ∙ sym (drop-drop m j d) in
     let before : digits k top ≡ take k (bits_of (drop j d)) = top_bits d j k byte top hd (omega arith) (omega arith) (omega arith) eb et in
     let laid_here : take (k + n) c ≡ take k (bits_of (drop j d)) ++ r =
-    ap (λ (i : ℕ). take (i + n) c) (sym (length_digits k top)) ∙ take_append_add (digits k top) (bits_of b) n ∙ ap (λ (l : List ℕ). l ++ r) before in
+    ap (λ (i : ℕ). take (i + n) c) (sym (length_digits k top)) ∙ take-append-add (digits k top) (bits_of b) n ∙ ap (λ (l : List ℕ). l ++ r) before in
     let hu : Bytes (take j d ++ t) =
     bytes_append (take j d) t (bytes_take j d hd) (bytes_append (pack m c) (drop m (drop j d)) (bytes_pack m c (small_coming k top b)) (bytes_drop (drop j d) m (bytes_drop d j hd))) in
-    let lu : j ≤ length (take j d ++ t) = rw (length_append) (omega arith) in
+    let lu : j ≤ length (take j d ++ t) = rw (length-append) (omega arith) in
     ev
     ∙ (λ i. laid ((eu ∙ (λ o. take j d ++ (pack (w o) c ++ later o))) i) (y i) [])
     ∙ laid_from (take j d ++ t) j (k + n) [] hu lu

@@ -6,8 +6,8 @@ use mathlib.Core.List.{List, [], ◌∷◌, ◌++◌}
 use Prim.Native.Nat.{ℕ, zero, suc, ◌+◌, ◌≤◌, ◌<◌}
 use native.Mathlib.Decide.{dec_lt}
 use native.Mathlib.Omega.{arith}
-use lib.ListN.{length, get_or, take, drop, replicate, length_take, drop_of_length_le, get_or_eq_default}
-use lib.Seq.{take_nil, get_or_take, get_or_drop, drop_cons}
+use lib.ListN.{length, get_or, take, drop, replicate, length-take, drop_of_length-le, get_or-eq_default}
+use lib.Seq.{take-nil, get_or-take, get_or-drop, drop-cons}
 
 -- every element is below n
 abbrev pub Under : ℕ → List ℕ → Type 0
@@ -30,12 +30,12 @@ drop_zeros (suc k) j zero e = absurd (omega arith)
 drop_zeros (suc k) j (suc m) e = drop_zeros k j m (omega arith)
 
 pub drop_first : (j : ℕ) (l : List ℕ) → get_or (drop j l) 0 0 ≡ get_or l j 0
-drop_first j l = let z : j + 0 ≡ j = omega arith in get_or_drop j l 0 0 ∙ ap (λ (n : ℕ). get_or l n 0) z
+drop_first j l = let z : j + 0 ≡ j = omega arith in get_or-drop j l 0 0 ∙ ap (λ (n : ℕ). get_or l n 0) z
 
 drop_of_take : (k n m : ℕ) (l : List ℕ) → k ≡ n + m → drop n (take k l) ≡ take m (drop n l)
 drop_of_take k zero m l e = let q : k ≡ m = omega arith in rw q
 drop_of_take zero (suc n) m l e = absurd (omega arith)
-drop_of_take (suc k) (suc n) m [] e = sym (take_nil m)
+drop_of_take (suc k) (suc n) m [] e = sym (take-nil m)
 drop_of_take (suc k) (suc n) m (x ∷ l) e = drop_of_take k n m l (omega arith)
 
 pub drop_take : (n m : ℕ) (l : List ℕ) → drop n (take (n + m) l) ≡ take m (drop n l)
@@ -43,7 +43,7 @@ drop_take n m l = drop_of_take (n + m) n m l refl
 
 module _ (n : ℕ) (pos : 0 < n) where
   under_drop : (r : List ℕ) (k : ℕ) → Under n r → Under n (drop k r)
-  under_drop r k h i = rw get_or_drop (h (k + i))
+  under_drop r k h i = rw get_or-drop (h (k + i))
 
   under_take : (k : ℕ) (r : List ℕ) → Under n r → Under n (take k r)
   under_take zero r h i = pos
@@ -114,8 +114,8 @@ listed_same (suc n) k r s h = λ i. h k (omega arith) i ∷ listed_same n (suc k
 
 -- a list whose length is known, written out by its elements
 pub spread : (n k : ℕ) (s : List ℕ) → k + n ≡ length s → drop k s ≡ listed k n s
-spread zero k s e = drop_of_length_le s {i = k} (omega arith)
-spread (suc n) k s e = drop_cons s k 0 (omega arith) ∙ ap (λ (l : List ℕ). get_or s k 0 ∷ l) (spread n (suc k) s (omega arith))
+spread zero k s e = drop_of_length-le s {i = k} (omega arith)
+spread (suc n) k s e = drop-cons s k 0 (omega arith) ∙ ap (λ (l : List ℕ). get_or s k 0 ∷ l) (spread n (suc k) s (omega arith))
 
 -- the same elements, where those past the end count as 0
 abbrev pub Alike : List ℕ → List ℕ → Type 0
@@ -124,12 +124,12 @@ Alike r s = (i : ℕ) → get_or r i 0 ≡ get_or s i 0
 pub alike_take : (r s : List ℕ) (k : ℕ) → ((i : ℕ) → i < k → get_or r i 0 ≡ get_or s i 0) → Alike (take k r) (take k s)
 alike_take r s k h i =
     elim (dec_lt i k) [
-      | yes lt ↦ get_or_take k r i 0 lt ∙ h i lt ∙ sym (get_or_take k s i 0 lt)
+      | yes lt ↦ get_or-take k r i 0 lt ∙ h i lt ∙ sym (get_or-take k s i 0 lt)
       | no le ↦ past r (omega arith) ∙ sym (past s (omega arith))
     ]
   where
     past : (l : List ℕ) → k ≤ i → get_or (take k l) i 0 ≡ 0
-    past l le = get_or_eq_default (take k l) 0 {n = i} (simp length_take (omega arith))
+    past l le = get_or-eq_default (take k l) 0 {n = i} (simp length-take (omega arith))
 
 pub alike_append : (p r s : List ℕ) → Alike r s → Alike (p ++ r) (p ++ s)
 alike_append [] r s h i = h i

@@ -1,13 +1,13 @@
 -- Eight bits at a time, wherever they stand in their bytes. The bits still to come are the last q digits of one byte and then the bits of other bytes;
 -- the first eight of them are digits of these two bytes as one number, and after them the next byte takes the first one's place. Assumes nothing.
 use mathlib.Core.Path.{◌≡◌, refl, sym, ap, ◌∙◌}
-use mathlib.Core.List.{List, [], ◌∷◌, ◌++◌, append_assoc, append_nil}
+use mathlib.Core.List.{List, [], ◌∷◌, ◌++◌, append_assoc, append-nil}
 use Prim.Native.Nat.{ℕ, suc, ◌+◌, ◌-◌, ◌*◌, ◌/◌, ◌%◌, ◌^◌, ◌≤◌, ◌<◌}
-use native.Mathlib.Nat.{mod_eq_of_lt}
-use native.Mathlib.Numerals.{add_one}
+use native.Mathlib.Nat.{mod-eq_of_lt}
+use native.Mathlib.Numerals.{add-one}
 use native.Mathlib.Omega.{arith}
-use lib.ListN.{length, get_or, take, drop, set, length_drop, take_append_drop}
-use lib.Seq.{take_suc_set, drop_set_lt, take_append_le, drop_append_le, drop_at, drop_nil, drop_drop}
+use lib.ListN.{length, get_or, take, drop, set, length-drop, take-append-drop}
+use lib.Seq.{take-suc-set, drop-set-lt, take-append-le, drop-append-le, drop_at, drop-nil, drop-drop}
 use lib.Pow.{shr_le}
 use Rattle.bits.specs.Bits.{bits_of, pack, digits}
 use Rattle.bits.proofs.Lists.{Bytes, Alike, zeros, drop_first, alike_append, alike_zeros, bytes_drop}
@@ -59,22 +59,22 @@ next_octet q high (x ∷ s) n few h = pack_octet q high x s few (h 0) n
 coming_here : (s : List ℕ) (r : ℕ) → r ≤ 8 → Alike (coming (8 - r) (get_or s 0 0) (drop 1 s)) (drop r (bits_of s))
 unfolding bits_of
 coming_here [] r few i =
-    ap (λ (l : List ℕ). get_or l i 0) (append_nil (digits (8 - r) 0) ∙ digits_zero (8 - r))
+    ap (λ (l : List ℕ). get_or l i 0) (append-nil (digits (8 - r) 0) ∙ digits_zero (8 - r))
     ∙ alike_zeros [] (8 - r) i
-    ∙ ap (λ (l : List ℕ). get_or l i 0) (sym (drop_nil r))
+    ∙ ap (λ (l : List ℕ). get_or l i 0) (sym (drop-nil r))
 coming_here (x ∷ s) r few i =
     ap (λ (l : List ℕ). get_or l i 0)
     (sym
     (ap (drop r) (bits_byte x s)
-    ∙ drop_append_le r (digits 8 x) (bits_of s) (omega (arith, length_digits 8 x))
+    ∙ drop-append-le r (digits 8 x) (bits_of s) (omega (arith, length_digits 8 x))
     ∙ ap (λ (l : List ℕ). l ++ bits_of s) (digits_last 8 r (8 - r) x (omega arith))))
 
 pub coming_from : (s : List ℕ) (j r : ℕ) → r ≤ 8 → Alike (coming (8 - r) (get_or s j 0) (drop (j + 1) s)) (drop (8 * j + r) (bits_of s))
 coming_from s j r few i =
-    (λ k. get_or (coming (8 - r) (sym (drop_first j s) k) (sym (drop_drop 1 j s) k)) i 0)
+    (λ k. get_or (coming (8 - r) (sym (drop_first j s) k) (sym (drop-drop 1 j s) k)) i 0)
     ∙ coming_here (drop j s) r few i
     ∙ ap (λ (l : List ℕ). get_or (drop r l) i 0) (sym (bits_drop j s))
-    ∙ ap (λ (l : List ℕ). get_or l i 0) (drop_drop r (8 * j) (bits_of s))
+    ∙ ap (λ (l : List ℕ). get_or l i 0) (drop-drop r (8 * j) (bits_of s))
 
 -- ---- a buffer filled octet by octet
 
@@ -85,7 +85,7 @@ filled d i last r = take i d ++ (pack (last - i) r ++ drop last d)
 -- all octets
 pub fill_done : (d : List ℕ) (i last : ℕ) (r : List ℕ) → i ≡ last → filled d i last r ≡ d
 unfolding pack
-fill_done d i last r e = let z : last - i ≡ 0 = omega arith in rw (z, e) (take_append_drop last d)
+fill_done d i last r e = let z : last - i ≡ 0 = omega arith in rw (z, e) (take-append-drop last d)
 
 -- one octet more
 pub fill_octet : (d s : List ℕ) (i last k q top low v : ℕ) → i < last → last ≤ length d → q ≤ 8 → Bytes s
@@ -97,10 +97,10 @@ fill_octet d s i last k q top low v lt fits few bytes el ev =
     let next : pack (last - i) (coming q top (drop k s)) ≡ v ∷ pack (last - (i + 1)) (coming q low (drop (k + 1) s)) =
     ap (λ (j : ℕ). pack j (coming q top (drop k s))) n
     ∙ next_octet q top (drop k s) (last - (i + 1)) few (bytes_drop s k bytes)
-    ∙ (λ j. (top * 256 + first j) / 2 ^ q % 256 ∷ pack (last - (i + 1)) (coming q (first j) (drop_drop 1 k s j)))
+    ∙ (λ j. (top * 256 + first j) / 2 ^ q % 256 ∷ pack (last - (i + 1)) (coming q (first j) (drop-drop 1 k s j)))
     ∙ ap (λ (x : ℕ). x ∷ pack (last - (i + 1)) (coming q low (drop (k + 1) s))) (sym ev) in
-    (λ j. (ap (λ (m : ℕ). take m (set d i v)) (add_one i) ∙ take_suc_set d i v (omega arith)) j
-    ++ (pack (last - (i + 1)) (coming q low (drop (k + 1) s)) ++ drop_set_lt last d i v lt j))
+    (λ j. (ap (λ (m : ℕ). take m (set d i v)) (add-one i) ∙ take-suc-set d i v (omega arith)) j
+    ++ (pack (last - (i + 1)) (coming q low (drop (k + 1) s)) ++ drop-set-lt last d i v lt j))
     ∙ append_assoc (take i d) (v ∷ []) (pack (last - (i + 1)) (coming q low (drop (k + 1) s)) ++ drop last d)
     ∙ ap (λ (l : List ℕ). take i d ++ (l ++ drop last d)) (sym next)
 
@@ -110,11 +110,11 @@ unfolding digits bits_of
 top_here [] e h few fits = let z : e ≡ 0 = omega arith in rw z
 top_here (x ∷ s) e h few fits =
     let z : 0 * 256 + x ≡ x = omega arith in
-    let y : x / 2 ^ (8 - e) % 256 ≡ x / 2 ^ (8 - e) = mod_eq_of_lt (omega (arith, shr_le x (8 - e), h 0)) in
+    let y : x / 2 ^ (8 - e) % 256 ≡ x / 2 ^ (8 - e) = mod-eq_of_lt (omega (arith, shr_le x (8 - e), h 0)) in
     ap (λ (n : ℕ). digits e (n / 2 ^ (8 - e) % 256)) z
     ∙ ap (digits e) y
     ∙ sym (digits_take 8 e (8 - e) x (omega arith))
-    ∙ sym (take_append_le e (digits 8 x) (bits_of s) (omega (arith, length_digits 8 x)))
+    ∙ sym (take-append-le e (digits 8 x) (bits_of s) (omega (arith, length_digits 8 x)))
     ∙ ap (take e) (sym (bits_byte x s))
 
 pub top_bits : (d : List ℕ) (j e byte top : ℕ) → Bytes d → j ≤ length d → e ≤ 8 → 8 * j + e ≤ 8 * length d
@@ -122,4 +122,4 @@ pub top_bits : (d : List ℕ) (j e byte top : ℕ) → Bytes d → j ≤ length 
     → digits e top ≡ take e (bits_of (drop j d))
 top_bits d j e byte top h le few fits eb et =
     ap (digits e) (et ∙ ap (λ (x : ℕ). (0 * 256 + x) / 2 ^ (8 - e) % 256) (eb ∙ sym (drop_first j d)))
-    ∙ top_here (drop j d) e (bytes_drop d j h) few (simp length_drop (omega arith))
+    ∙ top_here (drop j d) e (bytes_drop d j h) few (simp length-drop (omega arith))

@@ -1,12 +1,12 @@
 -- Laws of the step and of a position that is moved on. The step's bits are bits, so packing them loses nothing.
 use mathlib.Core.Path.{◌≡◌, sym, ap, subst, ◌∙◌}
-use mathlib.Core.List.{List, ◌∷◌, append_nil}
+use mathlib.Core.List.{List, ◌∷◌, append-nil}
 use Prim.Native.Nat.{ℕ, zero, suc, ◌+◌, ◌*◌, ◌/◌, ◌%◌, ◌<◌, ◌≤◌}
 use native.Mathlib.Decide.{dec_lt}
 use native.Mathlib.Omega.{arith}
 use lib.ListN.{length, take}
-use lib.Seq.{take_all, length_take_le}
-use borrow.Author.Tests.{lt_ltb, le_ltb}
+use lib.Seq.{take_all, length-take-le}
+use borrow.Author.Tests.{lt-ltb, le-ltb}
 use Rattle.bits.specs.Bits.{bits_of, pack, wrote}
 use Rattle.bits.proofs.Lists.{Small, Bytes, zeros, small_take}
 use Rattle.bits.proofs.Packed.{length_bits, small_bits, length_pack, bytes_pack, bits_pack}
@@ -27,7 +27,7 @@ small_stepped c h (suc i) = small_take 127 c h i
 
 pub length_stepped : (c : List ℕ) → length c ≡ 128 → length (stepped c) ≡ 128
 unfolding stepped
-length_stepped c e = ap suc (length_take_le 127 c (omega arith))
+length_stepped c e = ap suc (length-take-le 127 c (omega arith))
 
 -- ---- the step on sixteen bytes
 
@@ -54,21 +54,21 @@ wrote_stepped c e =
     let f : ℕ = feedback (bits_of c) in
     let r : List ℕ = take 127 (bits_of c) in
     let top : feedback (bits_of c) * 128 / 128 % 2 ≡ feedback (bits_of c) = omega (arith, feedback_bit (bits_of c)) in
-    let n : length r ≡ 127 = length_take_le 127 (bits_of c) (omega (arith, length_bits c)) in
+    let n : length r ≡ 127 = length-take-le 127 (bits_of c) (omega (arith, length_bits c)) in
     wrote_laid (f * 128 ∷ zeros 15) 1 c 127 (omega arith) (omega arith)
     ∙ laid_is (f * 128 ∷ zeros 15) 1 r 16 (omega arith)
-    ∙ append_nil (pack 16 (f * 128 / 128 % 2 ∷ r))
+    ∙ append-nil (pack 16 (f * 128 / 128 % 2 ∷ r))
     ∙ ap (λ (x : ℕ). pack 16 (x ∷ r)) top
 
 -- ---- one keystream bit
 
 pub advanced_in_block : (p : Position) → p.place < 127 → advanced p ≡ record { counter = p.counter; place = p.place + 1 }
 unfolding advanced
-advanced_in_block p h = simp (lt_ltb _ _ h)
+advanced_in_block p h = simp (lt-ltb _ _ h)
 
 pub advanced_at_end : (p : Position) → 127 ≤ p.place → advanced p ≡ record { counter = stepped_bytes p.counter; place = 0 }
 unfolding advanced
-advanced_at_end p h = simp (le_ltb _ _ h)
+advanced_at_end p h = simp (le-ltb _ _ h)
 
 -- what holds in both cases holds of the position moved on
 pub advanced_cases : (P : Position → Type 0) (p : Position) → (p.place < 127 → P (record { counter = p.counter; place = p.place + 1 }))

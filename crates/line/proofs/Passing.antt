@@ -6,7 +6,7 @@ use Prim.Native.Nat.{ℕ, ◌+◌, ◌*◌, ◌/◌, ◌<◌, ◌≤◌}
 use native.Mathlib.Omega.{arith}
 use lib.ListN.{length}
 use lib.Dec.{ltb, eqb}
-use borrow.Author.Tests.{eq_eqb, le_ltb, ltb_false}
+use borrow.Author.Tests.{eq-eqb, le-ltb, ltb-false}
 use Rattle.bits.proofs.Packed.{pack_none}
 use Rattle.refusal.specs.declared.Refusal.{Refusal}
 use Rattle.refusal.specs.declared.Answer.{Answer}
@@ -19,14 +19,14 @@ use Rattle.line.proofs.Records.{neither}
 
 pub opens : (key iv : List ℕ) (l : ℕ) → length key ≡ 16 → length iv ≡ 16 → 1 ≤ l → l ≤ 11 → open_answer key iv l ≡ Answer.Done
 unfolding open_answer
-opens key iv l hk hv low high = rw (eq_eqb (length key) 16 hk, eq_eqb (length iv) 16 hv, le_ltb l 1 low, le_ltb 11 l high)
+opens key iv l hk hv low high = rw (eq-eqb (length key) 16 hk, eq-eqb (length iv) 16 hv, le-ltb l 1 low, le-ltb 11 l high)
 
 -- and only then is an opening done
 pub opened_of : (key iv : List ℕ) (l : ℕ) → open_answer key iv l ≡ Answer.Done → (1 ≤ l) × (l ≤ 11)
 unfolding open_answer
 opened_of key iv l e =
     let q = neither (ltb l 1) (ltb 11 l) (third (eqb (length key) 16) (eqb (length iv) 16) (ltb l 1 || ltb 11 l) e) in
-    (ltb_false l 1 q.0, ltb_false 11 l q.1)
+    (ltb-false l 1 q.0, ltb-false 11 l q.1)
   where
     third : (a b c : Bool)
         → cond a (cond b (cond c (Answer.Refused (Refusal.Blackout)) (Answer.Done)) (Answer.Refused (Refusal.Iv))) (Answer.Refused (Refusal.Key)) ≡ Answer.Done
@@ -39,7 +39,7 @@ opened_of key iv l e =
 pub runs : (g : Line) (n : ℕ) (s d : List ℕ) → faulty g ≡ false → n ≤ 524288 → n ≤ 8 * length s → n ≤ 8 * length d → run_answer g n s d ≡ Answer.Done
 unfolding run_answer
 runs g n s d f few hs hd =
-    rw (f, le_ltb 524288 n few, le_ltb (length s) ((n + 7) / 8) (omega arith), le_ltb (length d) ((n + 7) / 8) (omega arith))
+    rw (f, le-ltb 524288 n few, le-ltb (length s) ((n + 7) / 8) (omega arith), le-ltb (length d) ((n + 7) / 8) (omega arith))
 
 -- a line as it is opened
 pub good_fresh : (key iv : List ℕ) (pattern l : ℕ) (receiving : Bool) → pattern < 256 → 1 ≤ l → l ≤ 11 → Good (fresh key iv pattern l receiving)

@@ -4,12 +4,12 @@ use mathlib.Core.Path.{◌≡◌, refl, sym, ap, ◌∙◌}
 use mathlib.Core.Bool.{Bool, true, false, not, cond, ◌||◌, true≢false}
 use mathlib.Core.List.{List, [], ◌∷◌}
 use Prim.Native.Nat.{ℕ, zero, suc, ◌+◌, ◌-◌, ◌*◌, ◌/◌, ◌%◌, ◌^◌, ◌<◌, ◌≤◌, min}
-use native.Mathlib.Nat.{mod_lt, div_eq_of_lt}
+use native.Mathlib.Nat.{mod-lt, div-eq_of_lt}
 use native.Mathlib.Omega.{arith}
 use lib.Dec.{ltb, eqb}
-use lib.ListN.{length, take, drop, length_take}
+use lib.ListN.{length, take, drop, length-take}
 use lib.Pow.{split, pow_pos}
-use borrow.Author.Tests.{ltb_false, eqb_true, eq_eqb, lt_ltb, le_ltb, not_false}
+use borrow.Author.Tests.{ltb-false, eqb-true, eq-eqb, lt-ltb, le-ltb, not-false}
 use Rattle.mode.specs.Rule.{Blackout, after}
 use Rattle.mode.specs.Mode.{Settings, State, Bits}
 use Rattle.mode.specs.Blocks.{Position}
@@ -44,11 +44,11 @@ small_of (x ∷ l) h (suc i) = small_of l h.1 i
 
 due_is : (S : Settings) (l left : ℕ) → S.collects ≡ 128 → S.lasts ≡ 128 * l → cond (ltb 0 left) (min 128 (128 * l - left)) 0 ≡ due S left
 due_is S l zero c e = refl
-due_is S l (suc k) c e = rw (c, e, lt_ltb 0 (suc k) (omega arith))
+due_is S l (suc k) c e = rw (c, e, lt-ltb 0 (suc k) (omega arith))
 
 most_is : (S : Settings) (left : ℕ) → length S.pattern ≡ 8 → cond (ltb 0 left) 0 7 ≡ most S left
 most_is S zero e = rw e
-most_is S (suc k) e = rw (lt_ltb 0 (suc k) (omega arith))
+most_is S (suc k) e = rw (lt-ltb 0 (suc k) (omega arith))
 
 due_low : (S : Settings) (left : ℕ) → due S left ≤ S.collects
 due_low S zero = omega arith
@@ -68,7 +68,7 @@ module _ (s : Line) where
     length_collected : length (take s.collected (bits_of s.iv)) ≡ s.collected
     length_collected =
         let low : s.collected ≤ 128 = rw (g.collected_is ∙ due_in_is) (due_low (settings s) s.left) in
-        simp (length_take, length_bits) (omega (arith, length_iv))
+        simp (length-take, length_bits) (omega (arith, length_iv))
 
     -- what passes 9 is in the mode's ranges
     pub within_view : Within (settings s) (view s)
@@ -147,7 +147,7 @@ low_digits n x e =
     let z : 0 * 2 ^ n ≡ 0 = omega arith in
     let s : x / 2 ^ n * 2 ^ n + x % 2 ^ n ≡ x = split x n in
     let t : x / 2 ^ n * 2 ^ n ≡ 0 = ap (λ (k : ℕ). k * 2 ^ n) e ∙ z in
-    omega (arith, mod_lt x (pow_pos n))
+    omega (arith, mod-lt x (pow_pos n))
 
 -- what the tests for 9 say of a record that passes them
 pub record Passed (s : Line) : Type 0 where
@@ -171,14 +171,14 @@ passed s e =
     let q3 = neither _ (ltb 127 s.position.place) q4.0 in
     let q2 = neither (ltb s.l 1) (ltb 11 s.l) q3.0 in
     record {
-      l_low = ltb_false s.l 1 q2.0;
-      l_high = ltb_false 11 s.l q2.1;
-      place_in = ltb_false 127 s.position.place q3.1;
-      left_in = ltb_false (128 * s.l) s.left q4.1;
-      collected_is = eqb_true s.collected (due_in s) (not_false (eqb s.collected (due_in s)) q5.1);
-      seen_in = ltb_false (most_in s) s.seen q6.1;
-      window_in = eqb_true (s.window / 2 ^ s.seen) 0 (not_false (eqb (s.window / 2 ^ s.seen) 0) q7.1);
-      rest_blank = not_false (blank (drop s.collected (bits_of s.iv))) q8.1;
+      l_low = ltb-false s.l 1 q2.0;
+      l_high = ltb-false 11 s.l q2.1;
+      place_in = ltb-false 127 s.position.place q3.1;
+      left_in = ltb-false (128 * s.l) s.left q4.1;
+      collected_is = eqb-true s.collected (due_in s) (not-false (eqb s.collected (due_in s)) q5.1);
+      seen_in = ltb-false (most_in s) s.seen q6.1;
+      window_in = eqb-true (s.window / 2 ^ s.seen) 0 (not-false (eqb (s.window / 2 ^ s.seen) 0) q7.1);
+      rest_blank = not-false (blank (drop s.collected (bits_of s.iv))) q8.1;
     }
 
 pub good_of : (s : Line) → faulty s ≡ false → s.pattern < 256 → length s.iv ≡ 16 → Bytes s.iv → Good s
@@ -200,13 +200,13 @@ pub passes : (s : Line) → Good s → faulty s ≡ false
 unfolding faulty
 passes s g =
     simp (
-      le_ltb s.l 1 g.l_low,
-      le_ltb 11 s.l g.l_high,
-      le_ltb 127 s.position.place (omega (arith, g.place_in)),
-      le_ltb (128 * s.l) s.left g.left_in,
-      eq_eqb s.collected (due_in s) g.collected_is,
-      le_ltb (most_in s) s.seen g.seen_in,
-      eq_eqb (s.window / 2 ^ s.seen) 0 (div_eq_of_lt g.window_in),
+      le-ltb s.l 1 g.l_low,
+      le-ltb 11 s.l g.l_high,
+      le-ltb 127 s.position.place (omega (arith, g.place_in)),
+      le-ltb (128 * s.l) s.left g.left_in,
+      eq-eqb s.collected (due_in s) g.collected_is,
+      le-ltb (most_in s) s.seen g.seen_in,
+      eq-eqb (s.window / 2 ^ s.seen) 0 (div-eq_of_lt g.window_in),
       pack_blank 16 s.iv s.collected g.iv_is,
     )
 

@@ -1,6 +1,6 @@
 -- Runs join: what one run of bits and then another give is what the run of all of them gives, since the mode's runs join and laid bits are laid on.
 use mathlib.Core.Path.{◌≡◌, refl, sym, ap, subst, ◌∙◌}
-use mathlib.Core.List.{List, [], ◌∷◌, ◌++◌, append_nil}
+use mathlib.Core.List.{List, [], ◌∷◌, ◌++◌, append-nil}
 use Prim.Native.Nat.{ℕ, zero, suc, ◌+◌, ◌-◌, ◌*◌, ◌≤◌}
 use native.Mathlib.Omega.{arith}
 use lib.ListN.{length}
@@ -41,7 +41,7 @@ module _ (s d : List ℕ) (f : ℕ) (g : Going) where
         ∙ laid_laid d f (made k) b (small_outs _ _ (view g.line) (part s f k)) (omega arith)
 
     pub clean_on : laid e (f + k) [] ≡ e
-    clean_on = laid_on [] ∙ ap (laid d f) (append_nil (made k)) ∙ sym a.out
+    clean_on = laid_on [] ∙ ap (laid d f) (append-nil (made k)) ∙ sym a.out
 
     -- the run of all
     pub ran_on : (m : ℕ) (r : Going) (e' : List ℕ) → Ran s e (f + k) m h r e' → Ran s d f (k + m) g r e'

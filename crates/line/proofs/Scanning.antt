@@ -3,11 +3,11 @@ use mathlib.Core.Path.{◌≡◌, sym, ap, subst, ◌∙◌}
 use mathlib.Core.Bool.{true, false}
 use mathlib.Core.List.{List, [], ◌∷◌}
 use Prim.Native.Nat.{ℕ, suc, ◌+◌, ◌*◌, ◌%◌, ◌^◌, ◌<◌, ◌≤◌}
-use native.Mathlib.Numerals.{add_one}
+use native.Mathlib.Numerals.{add-one}
 use native.Mathlib.Omega.{arith}
-use lib.ListN.{length, get_or, take, drop, length_take, drop_of_length_le}
-use lib.Seq.{drop_cons, get_or_take}
-use lib.Pow.{pow_mono, pow_add}
+use lib.ListN.{length, get_or, take, drop, length-take, drop_of_length-le}
+use lib.Seq.{drop-cons, get_or-take}
+use lib.Pow.{pow_mono, pow-add}
 use Rattle.mode.specs.Scan.{Scan, more, scan}
 use Rattle.mode.proofs.Scans.{scan_none}
 use Rattle.bits.specs.Bits.{bits_of, digits}
@@ -53,15 +53,15 @@ module _ (b : List ℕ) (n window seen pattern : ℕ) where
 
     next : drop i bits ≡ v ∷ drop (suc i) bits
     next =
-        let long : i < length bits = simp (length_take, length_bits) (omega (arith, a.sixteen, a.some)) in
-        drop_cons bits i 0 long ∙ ap (λ (x : ℕ). x ∷ drop (suc i) bits) (get_or_take n (bits_of b) i 0 lt ∙ sym hv)
+        let long : i < length bits = simp (length-take, length_bits) (omega (arith, a.sixteen, a.some)) in
+        drop-cons bits i 0 long ∙ ap (λ (x : ℕ). x ∷ drop (suc i) bits) (get_or-take n (bits_of b) i 0 lt ∙ sym hv)
 
     one_more : (w' c' : ℕ) → scan (digits 8 pattern) (digits c w) (v ∷ drop (suc i) bits) ≡ more (scan (digits 8 pattern) (digits c' w') (drop (suc i) bits))
         → ahead (i + 1) (scan (digits 8 pattern) (digits c' w') (drop (i + 1) bits)) ≡ within b n window seen pattern
     one_more w' c' e =
         let r : Scan = scan (digits 8 pattern) (digits c' w') (drop (suc i) bits) in
         let q : (i + 1) + r.count ≡ i + suc r.count = omega arith in
-        rw (add_one i)
+        rw (add-one i)
         ((λ k. record { count = (let q' : suc i + r.count ≡ i + suc r.count = omega arith in q') k; window = r.window; found = r.found })
         ∙ ap (ahead i) (sym e ∙ ap (scan (digits 8 pattern) (digits c w)) (sym next))
         ∙ a.rest)
@@ -78,9 +78,9 @@ module _ (b : List ℕ) (n window seen pattern : ℕ) where
       some = a.some;
       eight = a.eight;
       few = omega arith;
-      small = (let p : 2 ^ (c + 1) ≡ 2 ^ c * 2 = pow_add 2 c 1 in omega (arith, a.small, bit));
+      small = (let p : 2 ^ (c + 1) ≡ 2 ^ c * 2 = pow-add 2 c 1 in omega (arith, a.small, bit));
       high = omega arith;
-      rest = one_more (w * 2 + v) (c + 1) (subst (λ (k : ℕ). scan (digits 8 pattern) (digits c w) (v ∷ drop (suc i) bits) ≡ more (scan (digits 8 pattern) (digits k (w * 2 + v)) (drop (suc i) bits))) (sym (add_one c)) (scan_few 7 pattern c w v (drop (suc i) bits) h bit));
+      rest = one_more (w * 2 + v) (c + 1) (subst (λ (k : ℕ). scan (digits 8 pattern) (digits c w) (v ∷ drop (suc i) bits) ≡ more (scan (digits 8 pattern) (digits k (w * 2 + v)) (drop (suc i) bits))) (sym (add-one c)) (scan_few 7 pattern c w v (drop (suc i) bits) h bit));
     }
 
     pub turn_miss : 7 ≤ c → (w * 2 + v ≡ pattern → ⊥) → Searching ((w * 2 + v) % 128) c (i + 1)
@@ -106,7 +106,7 @@ module _ (b : List ℕ) (n window seen pattern : ℕ) where
   searched w c i a h =
       let e : i ≡ n = omega (arith, a.high) in
       let z : n ≡ i + 0 = omega (arith, e) in
-      let none : drop i bits ≡ [] = drop_of_length_le bits {i = i} (simp length_take (omega arith)) in
+      let none : drop i bits ≡ [] = drop_of_length-le bits {i = i} (simp length-take (omega arith)) in
       let s : record { count = 0; window = digits c w; found = false } ≡ scan (digits 8 pattern) (digits c w) (drop i bits) =
       sym (ap (scan (digits 8 pattern) (digits c w)) none ∙ scan_none (digits 8 pattern) (digits c w)) in
       let q : record { count = i + 0; window = digits c w; found = false } ≡ within b n window seen pattern = ap (ahead i) s ∙ a.rest in

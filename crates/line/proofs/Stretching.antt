@@ -7,9 +7,9 @@ use Prim.Native.Nat.{ℕ, zero, suc, ◌+◌, ◌-◌, ◌*◌, ◌^◌, ◌<◌
 use native.Mathlib.Decide.{dec_lt}
 use native.Mathlib.Omega.{arith}
 use lib.Dec.{ltb}
-use lib.ListN.{length, take, length_take, length_append}
-use lib.Seq.{take_take, take_append_add, take_nil}
-use borrow.Author.Tests.{lt_ltb, le_ltb, ltb_true, ltb_false}
+use lib.ListN.{length, take, length-take, length-append}
+use lib.Seq.{take-take, take-append-add, take-nil}
+use borrow.Author.Tests.{lt-ltb, le-ltb, ltb-true, ltb-false}
 use Rattle.mode.specs.Rule.{after, outs}
 use Rattle.mode.specs.Mode.{Generator, Settings, State}
 use Rattle.mode.specs.Blocks.{Position}
@@ -43,7 +43,7 @@ use Rattle.line.specs.Inner.{Good, within, Found, Covers, moved_on, scanned_to, 
 take_min : (n m : ℕ) (l : List ℕ) → take n (take m l) ≡ take (min n m) l
 take_min zero m l = let e : 0 ≡ min 0 m = omega arith in ap (λ (k : ℕ). take k l) e
 take_min (suc n) zero l = let e : 0 ≡ min (suc n) 0 = omega arith in ap (λ (k : ℕ). take k l) e
-take_min (suc n) (suc m) [] = sym (take_nil (min (suc n) (suc m)))
+take_min (suc n) (suc m) [] = sym (take-nil (min (suc n) (suc m)))
 take_min (suc n) (suc m) (x ∷ l) =
     let e : suc (min n m) ≡ min (suc n) (suc m) = omega arith in
     ap (λ (t : List ℕ). x ∷ t) (take_min n m l) ∙ ap (λ (k : ℕ). take k (x ∷ l)) e
@@ -108,7 +108,7 @@ module _ (s : Line) (g : Good s) where
       count_is = found.count ∙ ap (λ (t : Scan). t.count) there
 
       nothing : s.collected ≡ 0
-      nothing = g.collected_is ∙ rw (le_ltb 0 s.left (omega arith))
+      nothing = g.collected_is ∙ rw (le-ltb 0 s.left (omega arith))
 
       none : take s.collected (bits_of s.iv) ≡ []
       none = ap (λ (k : ℕ). take k (bits_of s.iv)) nothing
@@ -157,7 +157,7 @@ module _ (s : Line) (g : Good s) where
 
       pub scan_out : take f.count (bits_of r.out) ≡ outs (rule_of s) (view s) (take f.count a)
       scan_out =
-          sym (take_take f.count m (bits_of r.out) scan_within)
+          sym (take-take f.count m (bits_of r.out) scan_within)
           ∙ ap (take f.count) out_is
           ∙ ap (λ (k : ℕ). take k (plus a (stream G at (length a)))) count_is
           ∙ sym (scan_outs G S at (digits s.seen s.window) a)
@@ -174,15 +174,15 @@ module _ (s : Line) (g : Good s) where
       k = min m (128 - s.collected)
 
       due : s.collected ≡ min 128 (128 * s.l - s.left)
-      due = g.collected_is ∙ rw (lt_ltb 0 s.left d)
+      due = g.collected_is ∙ rw (lt-ltb 0 s.left d)
 
       unseen : s.seen ≡ 0
-      unseen = let h : most_in s ≡ 0 = rw (lt_ltb 0 s.left d) in omega (arith, g.seen_in)
+      unseen = let h : most_in s ≡ 0 = rw (lt-ltb 0 s.left d) in omega (arith, g.seen_in)
 
       length_c : length C ≡ s.collected
       length_c =
           let n : length s.iv ≡ 16 = ap length g.iv_is ∙ length_pack 16 C in
-          simp (length_take, length_bits) (omega (arith, due))
+          simp (length-take, length_bits) (omega (arith, due))
 
       darkens : view s ≡ dark G S at s.left C
       darkens =
@@ -198,18 +198,18 @@ module _ (s : Line) (g : Good s) where
           let e : 128 ≡ length C + (128 - s.collected) = omega (arith, length_c, due) in
           let q : k ≡ min (128 - s.collected) m = omega arith in
           ap (λ (n : ℕ). take n (C ++ carried G S at a)) e
-          ∙ take_append_add C (carried G S at a) (128 - s.collected)
+          ∙ take-append-add C (carried G S at a) (128 - s.collected)
           ∙ ap (λ (l : List ℕ). C ++ l) (ap (take (128 - s.collected)) (sym carried_is) ∙ take_min (128 - s.collected) m (bits_of r.carried) ∙ ap (λ (n : ℕ). take n (bits_of r.carried)) (sym q))
 
       length_gathered : length gathered ≡ s.collected + k
       length_gathered =
-          let e : length (C ++ carried G S at a) ≡ s.collected + m = length_append C (carried G S at a) ∙ (λ i. length_c i + (length_carried G S at a ∙ many) i) in
-          length_take 128 (C ++ carried G S at a) ∙ (let n : min 128 (length (C ++ carried G S at a)) ≡ s.collected + k = omega (arith, e, due) in n)
+          let e : length (C ++ carried G S at a) ≡ s.collected + m = length-append C (carried G S at a) ∙ (λ i. length_c i + (length_carried G S at a ∙ many) i) in
+          length-take 128 (C ++ carried G S at a) ∙ (let n : min 128 (length (C ++ carried G S at a)) ≡ s.collected + k = omega (arith, e, due) in n)
 
       wrote_is : wrote s.iv s.collected r.carried k ≡ pack 16 gathered
       wrote_is =
           let n : length s.iv ≡ 16 = ap length g.iv_is ∙ length_pack 16 C in
-          let b : length (take k (bits_of r.carried)) ≤ k = simp length_take (omega arith) in
+          let b : length (take k (bits_of r.carried)) ≤ k = simp length-take (omega arith) in
           wrote_laid s.iv s.collected r.carried k (omega arith) (omega (arith, n, due))
           ∙ (λ i. laid (g.iv_is i) (sym length_c i) (take k (bits_of r.carried)))
           ∙ laid_pack 16 C (take k (bits_of r.carried)) (small_take s.collected (bits_of s.iv) (small_bits s.iv)) (omega (arith, length_c, due, b))
@@ -223,7 +223,7 @@ module _ (s : Line) (g : Good s) where
           let from_view : after (rule_of s) (dark G S at s.left C) a ≡ after (rule_of s) (view s) a = ap (λ (t : State (Position (List ℕ))). after (rule_of s) t a) (sym darkens) in
           picked (λ (t : Line). t ≡ holding s (after (rule_of s) (view s) a)) (ltb m s.left) _ _
           (λ lt.
-          let on : length a < s.left = rw many (ltb_true m s.left lt) in
+          let on : length a < s.left = rw many (ltb-true m s.left lt) in
           let l : s.left - m ≡ s.left - length a = rw many in
           let p : moved_on s.position m ≡ record { counter = (nexts G at (length a)).counter; place = (nexts G at (length a)).place } =
           sym (moved_is m some in_block) ∙ ap (λ (n : ℕ). record { counter = (nexts G at n).counter; place = (nexts G at n).place }) (sym many) in
@@ -241,7 +241,7 @@ module _ (s : Line) (g : Good s) where
           })
           ∙ ap (holding s) (sym (dark_after G S a at s.left C on (omega (arith, length_c, due))) ∙ from_view))
           (λ ge.
-          let over : length a ≡ s.left = many ∙ (let e : m ≡ s.left = omega (arith, ltb_false m s.left ge) in e) in
+          let over : length a ≡ s.left = many ∙ (let e : m ≡ s.left = omega (arith, ltb-false m s.left ge) in e) in
           (λ i. record {
             key = s.key;
             pattern = s.pattern;

@@ -3,10 +3,10 @@ use mathlib.Core.Path.{◌≡◌, refl, sym, ap, ◌∙◌}
 use mathlib.Core.List.{List, [], ◌∷◌, ◌++◌}
 use Prim.Native.Nat.{ℕ, zero, suc, ◌+◌, ◌/◌, ◌%◌, ◌<◌, ◌≤◌}
 use native.Mathlib.Omega.{arith}
-use native.Mathlib.Numerals.{add_one}
+use native.Mathlib.Numerals.{add-one}
 use lib.Bits.{bit_xor, differ, xor_step, xor_shr}
-use lib.ListN.{length, get_or, take, drop, set, length_set}
-use lib.Seq.{take_suc, take_suc_set, drop_set_lt, drop_cons, take_all}
+use lib.ListN.{length, get_or, take, drop, set, length-set}
+use lib.Seq.{take-suc, take-suc-set, drop-set-lt, drop-cons, take_all}
 use Rattle.mode.specs.Words.{plus}
 use Rattle.mode.proofs.Streams.{plus_none, plus_one, plus_append}
 use Rattle.bits.specs.Bits.{bits_of, digits}
@@ -82,17 +82,17 @@ module _ (a b r : List ℕ) (i : ℕ) (s : Summed a b r i) where
       let ir : i < length r = omega (arith, s.long) in
       let ia : i < length a = omega (arith, s.long_a) in
       let ix : i < length (xors a b) = omega (arith, length_xors a b both) in
-      let e : get_or r i 0 ∷ drop (suc i) r ≡ get_or a i 0 ∷ drop (suc i) a = sym (drop_cons r i 0 ir) ∙ s.rest ∙ drop_cons a i 0 ia in
+      let e : get_or r i 0 ∷ drop (suc i) r ≡ get_or a i 0 ∷ drop (suc i) a = sym (drop-cons r i 0 ir) ∙ s.rest ∙ drop-cons a i 0 ia in
       let head : get_or r i 0 ≡ get_or a i 0 = ap (λ (l : List ℕ). get_or l 0 0) e in
       record {
         high = omega arith;
         long_a = s.long_a;
         long_b = s.long_b;
-        long = length_set r i v ∙ s.long;
-        done = rw (add_one i) (take_suc_set r i v ir
+        long = length-set r i v ∙ s.long;
+        done = rw (add-one i) (take-suc-set r i v ir
             ∙ (λ k. s.done k ++ ((ap (λ (x : ℕ). bit_xor x (get_or b i 0)) head ∙ sym (xors_at a b i ia both)) k ∷ []))
-            ∙ sym (take_suc (xors a b) i 0 ix));
-        rest = rw (add_one i) (drop_set_lt (suc i) r i v (omega arith) ∙ ap (λ (l : List ℕ). drop 1 l) e);
+            ∙ sym (take-suc (xors a b) i 0 ix));
+        rest = rw (add-one i) (drop-set-lt (suc i) r i v (omega arith) ∙ ap (λ (l : List ℕ). drop 1 l) e);
       }
 
   pub summed : 16 ≤ i → bits_of r ≡ plus (bits_of a) (bits_of b)

@@ -5,7 +5,7 @@ use mathlib.Core.Bool.{true, false}
 use mathlib.Core.List.{List, [], ◌∷◌, ◌++◌}
 use Prim.Native.Nat.{ℕ, suc, ◌+◌, ◌-◌, ◌*◌, ◌%◌, ◌^◌, ◌<◌}
 use native.Mathlib.Omega.{arith}
-use lib.ListN.{length, drop, length_append}
+use lib.ListN.{length, drop, length-append}
 use Rattle.mode.specs.Mode.{same, last}
 use Rattle.mode.specs.Scan.{more, scan}
 use Rattle.mode.proofs.Cases.{same_refl, same_false}
@@ -15,7 +15,7 @@ use Rattle.bits.proofs.Digits.{length_digits, digits_push, digits_drop, digits_m
 
 module _ (n p : ℕ) where
   length_seen : (c w v : ℕ) → length (digits c w ++ (v ∷ [])) ≡ c + 1
-  length_seen c w v = length_append (digits c w) (v ∷ []) ∙ ap (λ (k : ℕ). k + 1) (length_digits c w)
+  length_seen c w v = length-append (digits c w) (v ∷ []) ∙ ap (λ (k : ℕ). k + 1) (length_digits c w)
 
   -- the last n of k bits
   last_is : (c w v k : ℕ) → c + 1 - n ≡ k → last (length (digits (suc n) p) - 1) (digits c w ++ (v ∷ [])) ≡ drop k (digits c w ++ (v ∷ []))

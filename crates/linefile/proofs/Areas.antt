@@ -6,7 +6,7 @@ use Prim.Native.Nat.{ℕ, ◌+◌, ◌*◌, ◌≤◌}
 use native.Mathlib.Omega.{arith}
 use lib.Dec.{eqb, ltb}
 use lib.ListN.{length}
-use borrow.Author.Tests.{ltb_false, eqb_true, not_false}
+use borrow.Author.Tests.{ltb-false, eqb-true, not-false}
 use Rattle.refusal.specs.declared.Refusal.{Refusal}
 use Rattle.refusal.specs.declared.Answer.{Answer}
 use Rattle.refusal.proofs.Answers.{refused_not_done}
@@ -30,7 +30,7 @@ pub record Formed (s : List ℕ) : Type 0 where
 inside : (start bytes n : ℕ) → outside start bytes n ≡ false → (16 ≤ start) × (start + bytes ≤ n)
 inside start bytes n e =
     let p = neither (ltb start 16) (ltb n (start + bytes)) e in
-    (ltb_false start 16 p.0, ltb_false n (start + bytes) p.1)
+    (ltb-false start 16 p.0, ltb-false n (start + bytes) p.1)
 
 pub formed : (s : List ℕ) → malformed s ≡ false → Formed s
 unfolding malformed
@@ -45,15 +45,15 @@ formed s e =
     let b = inside (bits_at s) (bytes_for (count_of s)) (length s) p3.1 in
     let t = inside (settings_at s) 36 (length s) p4.1 in
     record {
-      short = ltb_false 65536 (length s) p1.0;
-      stated = eqb_true (stated_length s) (length s) (not_false _ p1.1);
-      long = ltb_false (length s) 16 p2.1;
+      short = ltb-false 65536 (length s) p1.0;
+      stated = eqb-true (stated_length s) (length s) (not-false _ p1.1);
+      long = ltb-false (length s) 16 p2.1;
       bits_after = b.0;
       bits_inside = b.1;
       settings_after = t.0;
       settings_inside = t.1;
       apart = p5.1;
-      direction_low = ltb_false 1 (direction_of s) p6.1;
+      direction_low = ltb-false 1 (direction_of s) p6.1;
       whole_ticks = p7.1;
     }
 

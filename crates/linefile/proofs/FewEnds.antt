@@ -5,7 +5,7 @@ use mathlib.Core.List.{List, [], ◌∷◌}
 use Prim.Native.Nat.{ℕ, suc, ◌+◌, ◌-◌, ◌*◌, ◌<◌, ◌≤◌, min}
 use native.Mathlib.Decide.{ℕ_discrete}
 use native.Mathlib.Omega.{arith}
-use lib.ListN.{length, length_append, length_drop}
+use lib.ListN.{length, length-append, length-drop}
 use Rattle.mode.specs.Mode.{Generator, Settings, State, last, seen, found, step, opened}
 use Rattle.mode.specs.Ends.{ends, pattern_ends, silent}
 use Rattle.mode.proofs.Cases.{same_true}
@@ -20,7 +20,7 @@ module _ (G : Generator) (S : Settings) (eight : length S.pattern ≡ 8) (long :
   module _ (v : ℕ) (vs : List ℕ) (i : ℕ) (s : State G.State) (h : length s.window ≤ 7)
       (rest : (t : State G.State) → length t.window ≤ 7 → Few (suc i) t vs) where
     one_long : length (seen G S s v) ≡ length s.window + 1
-    one_long = length_append s.window (v ∷ [])
+    one_long = length-append s.window (v ∷ [])
 
     abbrev next : State G.State
     next = step G S s v
@@ -37,7 +37,7 @@ module _ (G : Generator) (S : Settings) (eight : length S.pattern ≡ 8) (long :
     scans false e z =
         let w = windowed _ (step_looks G S s v z e) in
         let k : length (last (length S.pattern - 1) (seen G S s v)) ≡ length (seen G S s v) - (length (seen G S s v) - (length S.pattern - 1)) =
-        length_drop (length (seen G S s v) - (length S.pattern - 1)) (seen G S s v) in
+        length-drop (length (seen G S s v) - (length S.pattern - 1)) (seen G S s v) in
         rw (ends_later G S i s v vs (ended_scan G S s v z ∙ e)) (omega (arith, z, one_long, eight, w, k, rest next (omega (arith, w, k, eight))))
 
     dark : 0 < s.left → Few i s (v ∷ vs)

@@ -3,7 +3,7 @@ use mathlib.Core.Path.{◌≡◌, ap, ◌∙◌}
 use mathlib.Core.List.{List}
 use Prim.Native.Nat.{ℕ, ◌+◌, ◌-◌, ◌*◌, ◌<◌, ◌≤◌}
 use native.Mathlib.Omega.{arith}
-use lib.ListN.{length, take, drop, length_drop}
+use lib.ListN.{length, take, drop, length-drop}
 use lib.Seq.{take_all}
 use Rattle.mode.specs.Rule.{outs}
 use Rattle.bits.specs.Bits.{part, laid}
@@ -28,9 +28,9 @@ pub freely : (c : Settings) (s d e : List ℕ) (start n : ℕ) (o : Reply) → l
 freely c s d e start n o hk hv hp low high there few room eo ee =
     let open_done = opens c.key c.iv c.l hk hv low high in
     let g : o.line ≡ line_of c = ap (λ (r : Reply). r.line) eo ∙ ap (λ (a : Answer). outcome a (line_of c) zero_line) open_done in
-    let rest : take (length s - start) (drop start s) ≡ drop start s = take_all (length s - start) (drop start s) (simp length_drop (omega arith)) in
+    let rest : take (length s - start) (drop start s) ≡ drop start s = take_all (length s - start) (drop start s) (simp length-drop (omega arith)) in
     let good : Good (line_of c) = good_fresh c.key c.iv c.pattern c.l c.receiving hp low high in
-    let done = runs (line_of c) n (drop start s) d (passes (line_of c) good) few (simp length_drop (omega arith)) room in
+    let done = runs (line_of c) n (drop start s) d (passes (line_of c) good) few (simp length-drop (omega arith)) room in
     ee
     ∙ (λ i. written (g i) n (rest i) d)
     ∙ ap (λ (a : Answer). outcome a (laid d 0 (outs (rule_of (line_of c)) (view (line_of c)) (part (drop start s) 0 n))) d) done

@@ -3,10 +3,10 @@ use mathlib.Core.Path.{◌≡◌, refl, sym, ap, ◌∙◌}
 use mathlib.Core.Bool.{true, false}
 use mathlib.Core.List.{List, [], ◌∷◌}
 use Prim.Native.Nat.{ℕ, suc, ◌+◌, ◌*◌, ◌<◌, ◌≤◌}
-use native.Mathlib.Numerals.{add_one}
+use native.Mathlib.Numerals.{add-one}
 use native.Mathlib.Omega.{arith}
-use lib.ListN.{length, get_or, drop, set, length_set, drop_of_length_le}
-use lib.Seq.{drop_cons, sets}
+use lib.ListN.{length, get_or, drop, set, length-set, drop_of_length-le}
+use lib.Seq.{drop-cons, sets}
 use Rattle.mode.specs.Mode.{State, step, opened}
 use Rattle.mode.specs.Ends.{silent, ends, pattern_ends}
 use Rattle.mode.proofs.Ends.{scanner, ends_none, ends_here, ends_later, ends_bare}
@@ -56,7 +56,7 @@ module _ (s : List ℕ) (from n pattern l : ℕ) (d₀ : List ℕ) where
 
     next : drop i (part s from n) ≡ v ∷ drop (suc i) (part s from n)
     next =
-        drop_cons (part s from n) i 0 (rw (length_part s from n a.there) lt)
+        drop-cons (part s from n) i 0 (rw (length_part s from n a.there) lt)
         ∙ ap (λ (x : ℕ). x ∷ drop (suc i) (part s from n)) (part_at s from n i lt ∙ sym hv)
 
     module _ (r : Scanned) (k : Looked t v pattern l r) where
@@ -71,15 +71,15 @@ module _ (s : List ℕ) (from n pattern l : ℕ) (d₀ : List ℕ) where
           let m : coming t i ≡ suc i ∷ coming r.scanner (suc i) =
           now ∙ ends_here silent (rules pattern l) i (held t) v (drop (suc i) (part s from n)) (sym k.match ∙ f) ∙ ap (λ (b : List ℕ). suc i ∷ b) later in
           let c : length (coming t i) ≡ suc (length (coming r.scanner (suc i))) = ap length m in
-          rw (q, add_one i)
+          rw (q, add-one i)
           record {
             steady = k.steady;
             there = a.there;
             high = omega arith;
             few = omega (arith, a.few);
-            as_long = length_set d count (suc i) ∙ a.as_long;
+            as_long = length-set d count (suc i) ∙ a.as_long;
             counted = omega (arith, a.counted, c);
-            stored = ap (λ (b : ℕ). sets (set d count (suc i)) b (coming r.scanner (suc i))) (add_one count) ∙ ap (sets d count) (sym m) ∙ a.stored;
+            stored = ap (λ (b : ℕ). sets (set d count (suc i)) b (coming r.scanner (suc i))) (add-one count) ∙ ap (sets d count) (sym m) ∙ a.stored;
           }
 
       pub turn_none : r.found ≡ false → Listing d r.scanner count (i + 1)
@@ -87,7 +87,7 @@ module _ (s : List ℕ) (from n pattern l : ℕ) (d₀ : List ℕ) where
           let m : coming t i ≡ coming r.scanner (suc i) =
           now ∙ ends_later silent (rules pattern l) i (held t) v (drop (suc i) (part s from n)) (sym k.match ∙ f) ∙ later in
           let c : length (coming t i) ≡ length (coming r.scanner (suc i)) = ap length m in
-          rw (add_one i)
+          rw (add-one i)
           record {
             steady = k.steady;
             there = a.there;
@@ -100,7 +100,7 @@ module _ (s : List ℕ) (from n pattern l : ℕ) (d₀ : List ℕ) where
 
   pub listed : (d : List ℕ) (t : Scanner) (count i : ℕ) → Listing d t count i → n ≤ i → (count ≡ length all) × (d ≡ sets d₀ 0 all)
   listed d t count i a h =
-      let none : drop i (part s from n) ≡ [] = drop_of_length_le (part s from n) {i = i} (rw (length_part s from n a.there) h) in
+      let none : drop i (part s from n) ≡ [] = drop_of_length-le (part s from n) {i = i} (rw (length_part s from n a.there) h) in
       let e : coming t i ≡ [] = ap (ends silent (rules pattern l) i (held t)) none ∙ ends_none silent (rules pattern l) i (held t) in
       let c : length (coming t i) ≡ 0 = ap length e in
       (omega (arith, a.counted, c), sym (ap (sets d count) e) ∙ a.stored)

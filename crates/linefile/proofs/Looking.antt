@@ -3,9 +3,9 @@ use mathlib.Core.Path.{◌≡◌, refl, sym, ap, subst, ◌∙◌}
 use mathlib.Core.Bool.{true, false, cond}
 use mathlib.Core.List.{List, [], ◌∷◌}
 use Prim.Native.Nat.{ℕ, suc, ◌+◌, ◌-◌, ◌*◌, ◌%◌, ◌^◌, ◌<◌, ◌≤◌}
-use native.Mathlib.Numerals.{add_one}
+use native.Mathlib.Numerals.{add-one}
 use native.Mathlib.Omega.{arith}
-use lib.Pow.{pow_mono, pow_add}
+use lib.Pow.{pow_mono, pow-add}
 use Rattle.mode.specs.Mode.{step}
 use Rattle.mode.specs.Scan.{Scan, more, scan}
 use Rattle.mode.specs.Ends.{silent, ended}
@@ -39,11 +39,11 @@ module _ (pattern l : ℕ) (s : Scanner) (v : ℕ) (g : Steady s) where
 
     pub looks_few : s.seen < 7 → Looked s v pattern l (record { scanner = record { window = s.window * 2 + v; seen = s.seen + 1; left = 0 }; found = false })
     looks_few h =
-        let p : 2 ^ (s.seen + 1) ≡ 2 ^ s.seen * 2 = pow_add 2 s.seen 1 in
+        let p : 2 ^ (s.seen + 1) ≡ 2 ^ s.seen * 2 = pow-add 2 s.seen 1 in
         let q = scans _ (scan_few 7 pattern s.seen s.window v [] h hv ∙ ap more (scan_none (digits 8 pattern) (digits (suc s.seen) (s.window * 2 + v)))) in
         record {
           steady = record { few = omega arith; small = omega (arith, g.small, hv, p); dark = λ k. absurd (omega arith) };
-          state = ap (λ (n : ℕ). scanner (digits n (s.window * 2 + v)) 0) (add_one s.seen) ∙ q.0;
+          state = ap (λ (n : ℕ). scanner (digits n (s.window * 2 + v)) 0) (add-one s.seen) ∙ q.0;
           match = q.1;
         }
 

@@ -2,11 +2,11 @@
 -- rest, and that is the whole stream (`closing_sends_the_rest`).
 use mathlib.Core.Path.{◌≡◌, refl, sym, ap, subst, ◌∙◌}
 use mathlib.Core.Bool.{false}
-use mathlib.Core.List.{List, [], ◌++◌, append_nil}
+use mathlib.Core.List.{List, [], ◌++◌, append-nil}
 use Prim.Native.Nat.{ℕ, suc, ◌+◌, ◌-◌, ◌*◌, ◌/◌, ◌%◌, ◌<◌, ◌≤◌}
 use native.Mathlib.Omega.{arith}
-use native.Mathlib.Nat.{suc_mul, div_add_mod', lt_of_mul_lt_mul_right, mul_le_mul_right}
-use lib.ListN.{length, length_append}
+use native.Mathlib.Nat.{suc-mul, div-add-mod', lt_of_mul-lt-mul_right, mul-le-mul_right}
+use lib.ListN.{length, length-append}
 use Rattle.mode.specs.Rule.{Rule, Blackout, outs}
 use Rattle.mode.specs.Mode.{State}
 use Rattle.mode.specs.Blocks.{Position}
@@ -136,9 +136,9 @@ module _ (c : Settings) (s : List ℕ) (from n : ℕ) (o₀ : List ℕ) where
     -- a whole tick is left where any bit is
     tick_left : (k : ℕ) → k * D < n → suc k * D ≤ n
     tick_left k h =
-        let q : n ≡ n / D * D = sym (div_add_mod' n D) ∙ (let e : n % D ≡ 0 = w.whole in omega (arith, e)) in
-        let l : k < n / D = lt_of_mul_lt_mul_right D (subst (λ (m : ℕ). k * D < m) q h) in
-        let m : suc k * D ≤ n / D * D = mul_le_mul_right D l in
+        let q : n ≡ n / D * D = sym (div-add-mod' n D) ∙ (let e : n % D ≡ 0 = w.whole in omega (arith, e)) in
+        let l : k < n / D = lt_of_mul-lt-mul_right D (subst (λ (m : ℕ). k * D < m) q h) in
+        let m : suc k * D ≤ n / D * D = mul-le-mul_right D l in
         omega (arith, m, q)
 
     module _ (o : List ℕ) (g : Going) (i : ℕ) (a : Pacing o g i) where
@@ -161,7 +161,7 @@ module _ (c : Settings) (s : List ℕ) (from n : ℕ) (o₀ : List ℕ) where
           (λ j. laid (a.out j) (e j) r) ∙ laid_laid o₀ 0 (gone a.k) r (gone_small a.k there) (omega arith)
 
       clean : laid o g.at [] ≡ o
-      clean = on [] ∙ ap (laid o₀ 0) (append_nil (gone a.k)) ∙ sym a.out
+      clean = on [] ∙ ap (laid o₀ 0) (append-nil (gone a.k)) ∙ sym a.out
 
       -- ---- one tick more
 
@@ -173,7 +173,7 @@ module _ (c : Settings) (s : List ℕ) (from n : ℕ) (o₀ : List ℕ) where
         gone_next = sent_more R D (opened R (hold D) start) (pieces s from D a.k) (part s (from + a.k * D) D)
 
         next_count : length (gone a.k) + length (written R D (held a.k)) ≤ n
-        next_count = omega (arith, ap length gone_next ∙ length_append (gone a.k) (written R D (held a.k)), gone_count (suc a.k) enough, enough)
+        next_count = omega (arith, ap length gone_next ∙ length-append (gone a.k) (written R D (held a.k)), gone_count (suc a.k) enough, enough)
 
         fits : Roomy o g.at (leaving_from g.line)
         fits =
@@ -191,7 +191,7 @@ module _ (c : Settings) (s : List ℕ) (from n : ℕ) (o₀ : List ℕ) where
               is_open = ap (λ (p : Paced). p.closed) a.line;
               rate = ap (λ (p : Paced). p.d) a.line;
               low = omega (arith, low_rate);
-              there = omega (arith, a.given, suc_mul a.k D, enough, w.there);
+              there = omega (arith, a.given, suc-mul a.k D, enough, w.there);
               writes = fits;
             }
 
@@ -211,10 +211,10 @@ module _ (c : Settings) (s : List ℕ) (from n : ℕ) (o₀ : List ℕ) where
         paced_on e h eh ee =
             record {
               k = suc a.k;
-              given = omega (arith, a.given, suc_mul a.k D);
-              high = omega (arith, a.given, suc_mul a.k D, enough);
+              given = omega (arith, a.given, suc-mul a.k D);
+              high = omega (arith, a.given, suc-mul a.k D, enough);
               line = ap (λ (r : Going). r.line) eh ∙ ticked_is;
-              count = ap (λ (r : Going). r.at) eh ∙ (λ j. a.count j + length (leaves j)) ∙ sym (ap length gone_next ∙ length_append (gone a.k) (written R D (held a.k)));
+              count = ap (λ (r : Going). r.at) eh ∙ (λ j. a.count j + length (leaves j)) ∙ sym (ap length gone_next ∙ length-append (gone a.k) (written R D (held a.k)));
               out = ee ∙ on (leaving_from g.line) ∙ ap (laid o₀ 0) (ap (λ (r : List ℕ). gone a.k ++ r) leaves ∙ sym gone_next);
             }
 
@@ -226,7 +226,7 @@ module _ (c : Settings) (s : List ℕ) (from n : ℕ) (o₀ : List ℕ) where
 
         whole_count : length (gone a.k) + length (closing R (held a.k)) ≡ n
         whole_count =
-            sym (length_append (gone a.k) (closing R (held a.k)))
+            sym (length-append (gone a.k) (closing R (held a.k)))
             ∙ ap length (whole a.k there)
             ∙ length_outs R start (part s from (a.k * D))
             ∙ length_part s from (a.k * D) (omega (arith, there, w.there))

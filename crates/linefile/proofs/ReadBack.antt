@@ -7,9 +7,9 @@ use Prim.Native.Nat.{ℕ, ◌+◌, ◌-◌, ◌*◌, ◌/◌, ◌%◌, ◌<◌, 
 use native.Mathlib.Omega.{arith}
 use native.Mathlib.Decide.{dec_lt}
 use lib.Dec.{eqb, ltb}
-use lib.ListN.{length, get_or, take, drop, replicate, length_append, length_replicate, get_or_append}
-use lib.Seq.{sets, length_sets, get_or_append_add}
-use borrow.Author.Tests.{le_ltb, eq_eqb}
+use lib.ListN.{length, get_or, take, drop, replicate, length-append, length-replicate, get_or-append}
+use lib.Seq.{sets, length-sets, get_or-append-add}
+use borrow.Author.Tests.{le-ltb, eq-eqb}
 use Rattle.refusal.specs.declared.Answer.{Answer}
 use Rattle.bits.specs.Bits.{pack}
 use Rattle.bits.proofs.Lists.{Small, zeros}
@@ -36,14 +36,14 @@ module _ (c : Settings) (r : List ℕ) (a b n : ℕ) (w : Writable c r a b n) (s
   file = file_of c r a b n
 
   length_settings : length (setting_bytes c) ≡ 36
-  length_settings = let e : length (c.key ++ c.iv) ≡ 32 = length_append c.key c.iv ∙ (λ i. w.key_is i + w.iv_is i) in omega (arith, e)
+  length_settings = let e : length (c.key ++ c.iv) ≡ 32 = length-append c.key c.iv ∙ (λ i. w.key_is i + w.iv_is i) in omega (arith, e)
 
   length_header : length header ≡ n
-  length_header = let e : length (zeros (n - 16)) ≡ n - 16 = length_replicate (n - 16) 0 in omega (arith, e, w.settings_after, w.settings_inside)
+  length_header = let e : length (zeros (n - 16)) ≡ n - 16 = length-replicate (n - 16) 0 in omega (arith, e, w.settings_after, w.settings_inside)
 
   length_file : length file ≡ n
   unfolding file_of
-  length_file = length_sets (sets header b (setting_bytes c)) a packed ∙ length_sets header b (setting_bytes c) ∙ length_header
+  length_file = length-sets (sets header b (setting_bytes c)) a packed ∙ length-sets header b (setting_bytes c) ∙ length_header
 
   -- before byte 16 the header stands
   head_at : (k : ℕ) → k < 16 → get_or file k 0 ≡ get_or header k 0
@@ -89,7 +89,7 @@ module _ (c : Settings) (r : List ℕ) (a b n : ℕ) (w : Writable c r a b n) (s
   unfolding file_of
   bits_kept j h =
       stored_inside packed (sets header b (setting_bytes c)) a j
-      (omega (arith, length_header, length_sets header b (setting_bytes c), length_pack (bytes_for (length r)) r, w.bits_inside))
+      (omega (arith, length_header, length-sets header b (setting_bytes c), length_pack (bytes_for (length r)) r, w.bits_inside))
       (omega (arith, length_pack (bytes_for (length r)) r))
 
   pub bits_back : bits_of_file file ≡ r
@@ -102,15 +102,15 @@ module _ (c : Settings) (r : List ℕ) (a b n : ℕ) (w : Writable c r a b n) (s
   key_at : (j : ℕ) → j < 16 → get_or file (b + 4 + j) 0 ≡ get_or c.key j 0
   key_at j h =
       let e : b + 4 + j ≡ b + (4 + j) = omega arith in
-      ap (λ (k : ℕ). get_or file k 0) e ∙ setting_kept (4 + j) (omega arith) ∙ get_or_append_add (c.l ∷ c.pattern ∷ cond c.receiving 1 0 ∷ c.d ∷ []) (c.key ++ c.iv) j 0
-      ∙ get_or_append c.key c.iv 0 j (omega (arith, w.key_is))
+      ap (λ (k : ℕ). get_or file k 0) e ∙ setting_kept (4 + j) (omega arith) ∙ get_or-append-add (c.l ∷ c.pattern ∷ cond c.receiving 1 0 ∷ c.d ∷ []) (c.key ++ c.iv) j 0
+      ∙ get_or-append c.key c.iv 0 j (omega (arith, w.key_is))
 
   iv_at : (j : ℕ) → j < 16 → get_or file (b + 20 + j) 0 ≡ get_or c.iv j 0
   iv_at j h =
       let e : b + 20 + j ≡ b + (4 + (16 + j)) = omega arith in
-      ap (λ (k : ℕ). get_or file k 0) e ∙ setting_kept (4 + (16 + j)) (omega arith) ∙ get_or_append_add (c.l ∷ c.pattern ∷ cond c.receiving 1 0 ∷ c.d ∷ []) (c.key ++ c.iv) (16 + j) 0
+      ap (λ (k : ℕ). get_or file k 0) e ∙ setting_kept (4 + (16 + j)) (omega arith) ∙ get_or-append-add (c.l ∷ c.pattern ∷ cond c.receiving 1 0 ∷ c.d ∷ []) (c.key ++ c.iv) (16 + j) 0
       ∙ ap (λ (k : ℕ). get_or (c.key ++ c.iv) (k + j) 0) (sym w.key_is)
-      ∙ get_or_append_add c.key c.iv j 0
+      ∙ get_or-append-add c.key c.iv j 0
 
   direction_back : (t : Bool) → eqb (cond t 1 0) 1 ≡ t
   direction_back true = refl
@@ -132,20 +132,20 @@ module _ (c : Settings) (r : List ℕ) (a b n : ℕ) (w : Writable c r a b n) (s
   no_overlap : ((length r ≡ 0) ⊎ ((a + bytes_for (length r) ≤ b) ⊎ (b + 36 ≤ a))) → overlapping a (bytes_for (length r)) b 36 ≡ false
   no_overlap (inl p) =
       not_first _ (ltb b (a + bytes_for (length r)))
-      (not_first _ (ltb a (b + 36)) (not_first (ltb 0 (bytes_for (length r))) (ltb 0 36) (le_ltb 0 (bytes_for (length r)) (omega arith))))
-  no_overlap (inr (inl p)) = not_second (ltb 0 (bytes_for (length r)) && ltb 0 36 && ltb a (b + 36)) (ltb b (a + bytes_for (length r))) (le_ltb b (a + bytes_for (length r)) p)
-  no_overlap (inr (inr p)) = not_first _ (ltb b (a + bytes_for (length r))) (not_second (ltb 0 (bytes_for (length r)) && ltb 0 36) (ltb a (b + 36)) (le_ltb a (b + 36) p))
+      (not_first _ (ltb a (b + 36)) (not_first (ltb 0 (bytes_for (length r))) (ltb 0 36) (le-ltb 0 (bytes_for (length r)) (omega arith))))
+  no_overlap (inr (inl p)) = not_second (ltb 0 (bytes_for (length r)) && ltb 0 36 && ltb a (b + 36)) (ltb b (a + bytes_for (length r))) (le-ltb b (a + bytes_for (length r)) p)
+  no_overlap (inr (inr p)) = not_first _ (ltb b (a + bytes_for (length r))) (not_second (ltb 0 (bytes_for (length r)) && ltb 0 36) (ltb a (b + 36)) (le-ltb a (b + 36) p))
 
   whole_ticks : ((c.d ≡ 0) ⊎ ((length r % c.d ≡ 0) × (c.d * (c.l + 1) ≤ 128 * c.l))) → ragged (length r) c.d ≡ false
-  whole_ticks (inl p) = not_first (not (eqb c.d 0)) (not (eqb (length r % c.d) 0)) (rw (eq_eqb c.d 0 p))
-  whole_ticks (inr p) = not_second (not (eqb c.d 0)) (not (eqb (length r % c.d) 0)) (rw (eq_eqb (length r % c.d) 0 p.0))
+  whole_ticks (inl p) = not_first (not (eqb c.d 0)) (not (eqb (length r % c.d) 0)) (rw (eq-eqb c.d 0 p))
+  whole_ticks (inr p) = not_second (not (eqb c.d 0)) (not (eqb (length r % c.d) 0)) (rw (eq-eqb (length r % c.d) 0 p.0))
 
   slow_enough : ((c.d ≡ 0) ⊎ ((length r % c.d ≡ 0) × (c.d * (c.l + 1) ≤ 128 * c.l))) → rate_refused c.l c.d ≡ false
-  slow_enough (inl p) = not_first (not (eqb c.d 0)) (ltb (128 * c.l) (c.d * (c.l + 1))) (rw (eq_eqb c.d 0 p))
-  slow_enough (inr p) = not_second (not (eqb c.d 0)) (ltb (128 * c.l) (c.d * (c.l + 1))) (le_ltb (128 * c.l) (c.d * (c.l + 1)) p.1)
+  slow_enough (inl p) = not_first (not (eqb c.d 0)) (ltb (128 * c.l) (c.d * (c.l + 1))) (rw (eq-eqb c.d 0 p))
+  slow_enough (inr p) = not_second (not (eqb c.d 0)) (ltb (128 * c.l) (c.d * (c.l + 1))) (le-ltb (128 * c.l) (c.d * (c.l + 1)) p.1)
 
   within : (start bytes : ℕ) → 16 ≤ start → start + bytes ≤ n → outside start bytes n ≡ false
-  within start bytes low high = nor (ltb start 16) (ltb n (start + bytes)) (le_ltb start 16 low) (le_ltb n (start + bytes) high)
+  within start bytes low high = nor (ltb start 16) (ltb n (start + bytes)) (le-ltb start 16 low) (le-ltb n (start + bytes) high)
 
   well_formed : malformed file ≡ false
   unfolding malformed
@@ -159,9 +159,9 @@ module _ (c : Settings) (r : List ℕ) (a b n : ℕ) (w : Writable c r a b n) (s
       (nor _ (outside (bits_at file) (bytes_for (count_of file)) (length file))
       (nor _ (ltb (length file) 16)
       (nor (ltb 65536 (length file)) (not (eqb (stated_length file) (length file)))
-      (le_ltb 65536 (length file) (omega (arith, length_file, w.short)))
-      (rw (eq_eqb (stated_length file) (length file) (stated ∙ sym length_file))))
-      (le_ltb (length file) 16 (omega (arith, length_file, w.settings_after, w.settings_inside))))
+      (le-ltb 65536 (length file) (omega (arith, length_file, w.short)))
+      (rw (eq-eqb (stated_length file) (length file) (stated ∙ sym length_file))))
+      (le-ltb (length file) 16 (omega (arith, length_file, w.settings_after, w.settings_inside))))
       (rw (bits_start, count, length_file) (within a (bytes_for (length r)) w.bits_after w.bits_inside)))
       (rw (settings_start, length_file) (within b 36 w.settings_after w.settings_inside)))
       (rw (bits_start, count, settings_start) (no_overlap w.apart)))
@@ -174,5 +174,5 @@ module _ (c : Settings) (r : List ℕ) (a b n : ℕ) (w : Writable c r a b n) (s
       let l : l_of file ≡ c.l = ap (λ (s : Settings). s.l) settings_back in
       let d : d_of file ≡ c.d = ap (λ (s : Settings). s.d) settings_back in
       let done : read_answer file ≡ Answer.Done =
-      rw (well_formed, l, d, le_ltb c.l 1 w.l_low, le_ltb 11 c.l w.l_high, slow_enough w.free_or_paced) in
+      rw (well_formed, l, d, le-ltb c.l 1 w.l_low, le-ltb 11 c.l w.l_high, slow_enough w.free_or_paced) in
       says file done ∙ (λ i. record { answer = Answer.Done; settings = settings_back i; count = count i; start = bits_start i })

@@ -6,7 +6,7 @@ use Prim.Native.Nat.{ℕ, ◌+◌, ◌*◌, ◌/◌, ◌%◌, ◌<◌, ◌≤◌
 use native.Mathlib.Omega.{arith}
 use lib.Dec.{eqb, ltb}
 use lib.ListN.{length}
-use borrow.Author.Tests.{ltb_false, eqb_true, not_false, ne_eqb, le_ltb, lt_ltb}
+use borrow.Author.Tests.{ltb-false, eqb-true, not-false, ne_eqb, le-ltb, lt-ltb}
 use Rattle.mode.specs.Rule.{outs}
 use Rattle.bits.specs.Bits.{part, laid}
 use Rattle.refusal.specs.declared.Refusal.{Refusal}
@@ -22,7 +22,7 @@ use Rattle.linefile.proofs.Areas.{passed, formed, bits_inside, done, refused}
 
 module _ (s : List ℕ) (read : read_answer s ≡ Answer.Done) where
   l_in : (1 ≤ l_of s) × (l_of s ≤ 11)
-  l_in = let p = neither (ltb (l_of s) 1) (ltb 11 (l_of s)) (passed s read).blackout in (ltb_false (l_of s) 1 p.0, ltb_false 11 (l_of s) p.1)
+  l_in = let p = neither (ltb (l_of s) 1) (ltb 11 (l_of s)) (passed s read).blackout in (ltb-false (l_of s) 1 p.0, ltb-false 11 (l_of s) p.1)
 
   paces : (o : ℕ) → (d_of s ≡ 0 → ⊥) → bytes_for (count_of s) ≤ o → Paceable (settings_of s) (length s) (8 * bits_at s) (count_of s) o
   paces o some room =
@@ -33,8 +33,8 @@ module _ (s : List ℕ) (read : read_answer s ≡ Answer.Done) where
         l_low = l_in.0;
         l_high = l_in.1;
         some = omega (arith, some);
-        slow = ltb_false (128 * l_of s) (d_of s * (l_of s + 1)) fast;
-        whole = eqb_true (count_of s % d_of s) 0 (not_false _ whole);
+        slow = ltb-false (128 * l_of s) (d_of s * (l_of s + 1)) fast;
+        whole = eqb-true (count_of s % d_of s) 0 (not-false _ whole);
         there = (bits_inside s read).0;
         few = (bits_inside s read).1;
         room = omega (arith, room);
@@ -64,7 +64,7 @@ module _ (s o : List ℕ) (r : Contents) (e : r ≡ contents s) where
     unfolding ran_answer
     no_room h =
         let n : r.count ≡ count_of s = ap (λ (c : Contents). c.count) says in
-        rw (read, lt_ltb (length o) (bytes_for (count_of s)) (omega (arith, h, n))) (refl, refl)
+        rw (read, lt-ltb (length o) (bytes_for (count_of s)) (omega (arith, h, n))) (refl, refl)
 
     pub all_run : (x : List ℕ) → (r.count + 7) / 8 ≤ length o
         → x ≡ laid o 0 (outs (rule_of (line_of r.settings)) (view (line_of r.settings)) (part s (8 * r.start) r.count))
@@ -72,7 +72,7 @@ module _ (s o : List ℕ) (r : Contents) (e : r ≡ contents s) where
     unfolding ran_answer
     all_run x room ex =
         let n : r.count ≡ count_of s = ap (λ (c : Contents). c.count) says in
-        rw (ex, says, read, le_ltb (length o) (bytes_for (count_of s)) (omega (arith, room, n))) (refl, refl)
+        rw (ex, says, read, le-ltb (length o) (bytes_for (count_of s)) (omega (arith, room, n))) (refl, refl)
 
   pub none_run : (why : Refusal) → r.answer ≡ Answer.Refused why → (record { answer = Answer.Refused why; bits = 0 } ≡ ran s o) × (o ≡ result_left s o)
   unfolding ran_answer

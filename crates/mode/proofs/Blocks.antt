@@ -1,14 +1,14 @@
 -- A generator in blocks: within a block the stream is the cipher's block from the place on, and the whole stream is the blocks of the successive
 -- counters one after the other.
 use mathlib.Core.Path.{◌≡◌, refl, sym, ap, ◌∙◌}
-use mathlib.Core.List.{List, ◌∷◌, ◌++◌, append_nil}
+use mathlib.Core.List.{List, ◌∷◌, ◌++◌, append-nil}
 use Prim.Native.Nat.{ℕ, zero, suc, ◌+◌, ◌*◌, ◌<◌, ◌≤◌}
 use native.Mathlib.Decide.{dec_lt}
 use native.Mathlib.Omega.{arith}
 use lib.Dec.{ltb}
-use lib.ListN.{length, take, drop, get_or, length_append, get_or_append}
-use lib.Seq.{drop_cons, drop_at}
-use borrow.Author.Tests.{lt_ltb, le_ltb, ltb_true}
+use lib.ListN.{length, take, drop, get_or, length-append, get_or-append}
+use lib.Seq.{drop-cons, drop_at}
+use borrow.Author.Tests.{lt-ltb, le-ltb, ltb-true}
 use Rattle.mode.specs.Mode.{Generator, Settings, State, rule}
 use Rattle.mode.specs.Rule.{outs}
 use Rattle.mode.specs.Blocks.{Position, onward, blocks, keystream}
@@ -24,14 +24,14 @@ module _ {X : Type 0} (size : ℕ) (encipher : X → List ℕ) (step : X → X) 
   at c p = record { counter = c; place = p }
 
   pub onward_within : (c : X) (p : ℕ) → suc p < size → onward size encipher step (at c p) ≡ at c (suc p)
-  onward_within c p h = rw (lt_ltb (suc p) size h)
+  onward_within c p h = rw (lt-ltb (suc p) size h)
 
   pub onward_over : (c : X) (p : ℕ) → size ≤ suc p → onward size encipher step (at c p) ≡ at (step c) 0
-  onward_over c p h = rw (le_ltb (suc p) size h)
+  onward_over c p h = rw (le-ltb (suc p) size h)
 
   pub onward_place : 0 < size → (p : Position X) → (onward size encipher step p).place < size
   onward_place some p =
-      picked (λ (q : Position X). q.place < size) (ltb (suc p.place) size) _ _ (λ e. ltb_true (suc p.place) size e) (λ e. some)
+      picked (λ (q : Position X). q.place < size) (ltb (suc p.place) size) _ _ (λ e. ltb-true (suc p.place) size e) (λ e. some)
 
   -- so many bits on, within the block
   pub nexts_within : (n : ℕ) (c : X) (p : ℕ) → p + n < size → nexts G (at c p) n ≡ at c (p + n)
@@ -56,8 +56,8 @@ module _ {X : Type 0} (size : ℕ) (encipher : X → List ℕ) (step : X → X) 
         let E : List ℕ = encipher c in
         let K : List ℕ = keystream size encipher step (step c) m in
         let lt : p < length E = rw (full c) h in
-        let long : p < length (E ++ K) = rw (length_append E K) (omega arith) in
-        let here : get_or E p 0 ≡ get_or (E ++ K) p 0 = sym (get_or_append E K 0 p lt) in
+        let long : p < length (E ++ K) = rw (length-append E K) (omega arith) in
+        let here : get_or E p 0 ≡ get_or (E ++ K) p 0 = sym (get_or-append E K 0 p lt) in
         let rest : stream G (onward size encipher step (at c p)) n ≡ take n (drop (suc p) (E ++ K)) =
         elim (dec_lt (suc p) size) [
           | yes within ↦ ap (λ (q : Position X). stream G q n) (onward_within c p within) ∙ stream_is n (suc m) c (suc p) within (omega arith)
@@ -67,12 +67,12 @@ module _ {X : Type 0} (size : ℕ) (encipher : X → List ℕ) (step : X → X) 
               ∙ stream_is n m (step c) 0 (omega arith) (omega arith)
               ∙ ap (take n) (sym (drop_at E K (suc p) e))
         ] in
-        (λ i. here i ∷ rest i) ∙ ap (take (suc n)) (sym (drop_cons (E ++ K) p 0 long))
+        (λ i. here i ∷ rest i) ∙ ap (take (suc n)) (sym (drop-cons (E ++ K) p 0 long))
 
     -- within one block
     pub stream_within : (n : ℕ) (c : X) (p : ℕ) → p < size → p + n ≤ size → stream G (at c p) n ≡ take n (drop p (encipher c))
     stream_within n c p h k =
-        stream_is n 1 c p h (omega arith) ∙ ap (λ (l : List ℕ). take n (drop p l)) (append_nil (encipher c))
+        stream_is n 1 c p h (omega arith) ∙ ap (λ (l : List ℕ). take n (drop p l)) (append-nil (encipher c))
 
     -- the published mode: between two moments at which the counter is set, the output is the input plus, bit by bit, the blocks that the cipher makes of
     -- the successive counters; n bits from place p of the block of counter c on

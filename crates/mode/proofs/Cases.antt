@@ -5,8 +5,8 @@ use mathlib.Core.List.{List, [], ◌∷◌, ◌++◌}
 use Prim.Native.Nat.{ℕ, zero, suc, ◌<◌, ◌≤◌}
 use native.Mathlib.Omega.{arith}
 use lib.Dec.{eqb}
-use lib.ListN.{length, take, drop, length_drop}
-use borrow.Author.Tests.{eqb_true, eq_eqb}
+use lib.ListN.{length, take, drop, length-drop}
+use borrow.Author.Tests.{eqb-true, eq-eqb}
 use Rattle.mode.specs.Mode.{stage, last, same, Bits}
 
 -- what holds of both holds of the one that a test picks
@@ -26,14 +26,14 @@ same_true [] (y ∷ b) e = absurd (true≢false (sym e))
 same_true (x ∷ a) [] e = absurd (true≢false (sym e))
 same_true (x ∷ a) (y ∷ b) e =
     picked (λ (t : Bool). t ≡ true → x ∷ a ≡ y ∷ b) (eqb x y) (same a b) false
-    (λ h q. let p : x ≡ y = eqb_true x y h in λ i. p i ∷ same_true a b q i)
+    (λ h q. let p : x ≡ y = eqb-true x y h in λ i. p i ∷ same_true a b q i)
     (λ h q. absurd (true≢false (sym q)))
     e
 
 pub same_refl : (a : List ℕ) → same a a ≡ true
 unfolding same
 same_refl [] = refl
-same_refl (x ∷ a) = rw (eq_eqb x x refl) (same_refl a)
+same_refl (x ∷ a) = rw (eq-eqb x x refl) (same_refl a)
 
 pub same_false : (a b : List ℕ) → (a ≡ b → ⊥) → same a b ≡ false
 same_false a b h = go (same a b) refl
@@ -43,7 +43,7 @@ same_false a b h = go (same a b) refl
     go false e = refl
 
 pub length_last : (n : ℕ) (l : List ℕ) → length (last n l) ≤ n
-length_last n l = simp length_drop (omega arith)
+length_last n l = simp length-drop (omega arith)
 
 pub take_take_append : (n : ℕ) (a b : List ℕ) → take n (take n a ++ b) ≡ take n (a ++ b)
 take_take_append zero a b = refl

@@ -6,7 +6,7 @@ use mathlib.Core.Bool.{Bool, true, false}
 use mathlib.Core.List.{List, [], ◌∷◌, ◌++◌}
 use Prim.Native.Nat.{ℕ, zero, suc, ◌+◌, ◌-◌, ◌*◌, ◌%◌, ◌<◌, ◌≤◌, min}
 use native.Mathlib.Omega.{arith}
-use lib.ListN.{length, length_append, length_take}
+use lib.ListN.{length, length-append, length-take}
 use Rattle.mode.specs.Rule.{Blackout, after, outs}
 use Rattle.mode.specs.Mode.{Generator, Settings, State, stage, last, out, line, seen, found, gathered, step, rule, fed, lines, opened, toward, sends, receives, Bits}
 use Rattle.mode.specs.Words.{due, Within}
@@ -100,7 +100,7 @@ module _ (G : Generator) (S : Settings) where
       let c : length s.collected ≡ min S.collects (S.lasts - s.left) = w.collected_is ∙ due_dark S s.left (omega arith) in
       record {
         left_in = omega (arith, w.left_in);
-        collected_is = simp (length_take, length_append) (omega (arith, w.left_in, due_dark S (s.left - 1) (omega arith)));
+        collected_is = simp (length-take, length-append) (omega (arith, w.left_in, due_dark S (s.left - 1) (omega arith)));
         window_in = omega arith;
         collected_bits = bits_take S.collects (s.collected ++ (v ∷ [])) (bits_append s.collected (v ∷ []) w.collected_bits (b, tt));
         window_bits = tt;

@@ -2,10 +2,10 @@
 -- set before the last bit, so the line bits are the bits given plus a stretch of keystream, or the bits given themselves.
 use mathlib.Core.Path.{◌≡◌, refl, sym, ap, subst, ◌∙◌}
 use mathlib.Core.Bool.{cond}
-use mathlib.Core.List.{List, [], ◌∷◌, ◌++◌, append_assoc, append_nil}
+use mathlib.Core.List.{List, [], ◌∷◌, ◌++◌, append_assoc, append-nil}
 use Prim.Native.Nat.{ℕ, suc, ◌-◌, ◌<◌, ◌≤◌}
 use native.Mathlib.Omega.{arith}
-use lib.ListN.{length, take, length_take}
+use lib.ListN.{length, take, length-take}
 use lib.Seq.{take_all}
 use Rattle.mode.specs.Rule.{after, outs}
 use Rattle.mode.specs.Mode.{Generator, Settings, State, last, same, line, step, rule, opened}
@@ -93,12 +93,12 @@ module _ (G : Generator) (S : Settings) where
   dark_after [] g l c h k =
       let z : l ≡ l - 0 = omega arith in
       let e : c ≡ take S.collects (c ++ carried G S g []) =
-      sym (take_all S.collects c k) ∙ ap (take S.collects) (sym (append_nil c) ∙ ap (λ (r : List ℕ). c ++ r) (sym (carried_none g))) in
+      sym (take_all S.collects c k) ∙ ap (take S.collects) (sym (append-nil c) ∙ ap (λ (r : List ℕ). c ++ r) (sym (carried_none g))) in
       λ i. dark g (z i) (e i)
   dark_after (b ∷ r) g l c h k =
       let z : l - 1 - length r ≡ l - suc (length r) = omega arith in
       ap (λ (t : State G.State). after (rule G S) t r) (dark_one b g l c (omega arith))
-      ∙ dark_after r (G.next g) (l - 1) (take S.collects (c ++ (line G S (dark g l c) b ∷ []))) (omega arith) (simp length_take (omega arith))
+      ∙ dark_after r (G.next g) (l - 1) (take S.collects (c ++ (line G S (dark g l c) b ∷ []))) (omega arith) (simp length-take (omega arith))
       ∙ (λ i. dark (nexts G (G.next g) (length r)) (z i) (collected_more b r g l c i))
 
   -- the rest of a blackout, to its last bit

@@ -1,11 +1,11 @@
 -- What every tick keeps. The bits given to a line are those passed and those waiting, in this order; what came out for the passed ones is what is sent and
 -- what is ready. Each tick brings D bits and sees D places leave, so the three stay M together, and fillers are M less the bits given.
 use mathlib.Core.Path.{◌≡◌, refl, sym, ap, ◌∙◌}
-use mathlib.Core.List.{List, [], ◌∷◌, ◌++◌, append_assoc, append_nil}
+use mathlib.Core.List.{List, [], ◌∷◌, ◌++◌, append_assoc, append-nil}
 use Prim.Native.Nat.{ℕ, ◌+◌, ◌-◌, ◌*◌, ◌≤◌}
 use native.Mathlib.Omega.{arith}
-use lib.ListN.{length, take, drop, length_append, length_drop, take_append_drop}
-use lib.Seq.{take_at, length_take_le}
+use lib.ListN.{length, take, drop, length-append, length-drop, take-append-drop}
+use lib.Seq.{take_at, length-take-le}
 use Rattle.mode.specs.Rule.{Rule, Blackout, after, outs}
 use Rattle.mode.proofs.Runs.{after_append, outs_append, length_outs}
 use Rattle.pace.specs.Tick.{Held, opened, leaving, written, moving, passing, staying, ticked, closing, closed}
@@ -17,10 +17,10 @@ use Rattle.pace.proofs.Room.{Room, hold_is_enough, room_moved, room_opened}
 
 module _ {A B : Type 0} (R : Rule A B) (D : ℕ) (p : Held R) where
   pub length_closing : length (closing R p) ≡ length p.ready + length p.waiting
-  length_closing = simp (length_append, length_outs R p.state)
+  length_closing = simp (length-append, length_outs R p.state)
 
   pub length_written : D ≤ p.fillers + length p.ready → length (written R D p) ≡ D - p.fillers
-  length_written enough = length_take_le (leaving R D p) p.ready (omega arith)
+  length_written enough = length-take-le (leaving R D p) p.ready (omega arith)
 
   module _ (input : List A) where
     -- what is held, piece by piece
@@ -34,28 +34,28 @@ module _ {A B : Type 0} (R : Rule A B) (D : ℕ) (p : Held R) where
     ticked_is = refl
 
     halves : passing R p input ++ staying R p input ≡ p.waiting ++ input
-    halves = take_append_drop (moving R p input) (p.waiting ++ input)
+    halves = take-append-drop (moving R p input) (p.waiting ++ input)
 
     pub length_passing : length (passing R p input) ≡ moving R p input
-    length_passing = length_take_le (moving R p input) (p.waiting ++ input) (moves_what_waits R p input)
+    length_passing = length-take-le (moving R p input) (p.waiting ++ input) (moves_what_waits R p input)
 
     pub length_ready : length (ticked R D p input).ready ≡ length p.ready - (D - p.fillers) + moving R p input
     unfolding ticked
     length_ready =
-        length_append (drop (leaving R D p) p.ready) (outs R p.state (passing R p input))
-        ∙ rw (length_drop, length_outs R p.state (passing R p input), length_passing)
+        length-append (drop (leaving R D p) p.ready) (outs R p.state (passing R p input))
+        ∙ rw (length-drop, length_outs R p.state (passing R p input), length_passing)
 
     module _ (size : length input ≡ D) where
       pub length_waiting : length (ticked R D p input).waiting ≡ length p.waiting + D - moving R p input
       unfolding ticked
-      length_waiting = simp (length_drop, length_append) (rw size)
+      length_waiting = simp (length-drop, length-append) (rw size)
 
       -- where D places can leave, the three stay as many together as they were
       pub same_together : D ≤ p.fillers + length p.ready
           → length (ticked R D p input).waiting + length (ticked R D p input).ready + (ticked R D p input).fillers
           ≡ length p.waiting + length p.ready + p.fillers
       unfolding ticked
-      same_together enough = omega (arith, length_waiting, length_ready, moves_what_waits R p input, length_append p.waiting input)
+      same_together enough = omega (arith, length_waiting, length_ready, moves_what_waits R p input, length-append p.waiting input)
 
 -- ---- lines reached from an opening
 
@@ -103,20 +103,20 @@ module _ {A B : Type 0} (R : Rule A B) (D L M : ℕ) (law : Blackout R L) (some 
                 outs_append R s₀ k.passed xs,
                 k.came,
                 k.stands,
-                take_append_drop r p.ready,
+                take-append-drop r p.ready,
                 append_assoc gone p.ready (outs R p.state xs),
                 append_assoc gone (take r p.ready) (drop r p.ready ++ outs R p.state xs),
                 append_assoc (take r p.ready) (drop r p.ready) (outs R p.state xs),
               );
-          fill = omega (arith, k.fill, length_append given i);
+          fill = omega (arith, k.fill, length-append given i);
           together = same_together R D p i n can_leave ∙ k.together;
-          room = room_moved R D L law some rate p.state (p.waiting ++ i) (length p.waiting) (omega (arith, length_append p.waiting i)) k.room;
+          room = room_moved R D L law some rate p.state (p.waiting ++ i) (length p.waiting) (omega (arith, length-append p.waiting i)) k.room;
         }
 
     pub length_gone : length gone ≡ length given - M
     length_gone =
         omega
-        (arith, k.fill, k.together, simp length_append at (ap length k.split), simp (length_append, length_outs R s₀) at (ap length k.came))
+        (arith, k.fill, k.together, simp length-append at (ap length k.split), simp (length-append, length_outs R s₀) at (ap length k.came))
 
     -- what is sent is the beginning of what comes out, whatever bits follow
     pub gone_is : (more : List A) → gone ≡ take (length given - M) (outs R s₀ (given ++ more))
@@ -143,7 +143,7 @@ module _ {A B : Type 0} (R : Rule A B) (D L M : ℕ) (law : Blackout R L) (some 
 
   pub kept_ticks : (s₀ : R.State) (is : List (List A)) → Each D is → (given : List A) (gone : List B) (p : Held R) → Kept R D L M s₀ given gone p
       → Kept R D L M s₀ (given ++ joined is) (gone ++ sent R D p is) (ticks R D p is)
-  kept_ticks s₀ [] e given gone p k = simp append_nil k
+  kept_ticks s₀ [] e given gone p k = simp append-nil k
   kept_ticks s₀ (i ∷ is) e given gone p k =
       simp (← append_assoc)
       (kept_ticks s₀ is e.1 (given ++ i) (gone ++ written R D p) (ticked R D p i) (kept_tick s₀ given gone p k i e.0))

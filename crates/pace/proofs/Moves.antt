@@ -6,7 +6,7 @@ use Prim.Native.Nat.{ℕ, zero, suc, ◌≤◌, ◌<◌}
 use native.Mathlib.Decide.{dec_le}
 use native.Mathlib.Omega.{arith}
 use lib.ListN.{length}
-use borrow.Author.Tests.{le_leb, lt_leb}
+use borrow.Author.Tests.{le-leb, lt-leb}
 use Rattle.mode.specs.Rule.{Rule}
 use Rattle.pace.specs.Tick.{Held, width, moves, moving}
 
@@ -28,8 +28,8 @@ pub moves_cases : (w n : ℕ) → ((w ≤ n) × (moves w n ≡ w)) ⊎ ((n < w) 
 moves_cases w n = go (dec_le w n)
   where
     go : Dec (w ≤ n) → ((w ≤ n) × (moves w n ≡ w)) ⊎ ((n < w) × (moves w n ≡ 0))
-    go (yes le) = inl (le, rw (le_leb w n le))
-    go (no gt) = inr (omega arith, rw (lt_leb w n (omega arith)))
+    go (yes le) = inl (le, rw (le-leb w n le))
+    go (no gt) = inr (omega arith, rw (lt-leb w n (omega arith)))
 
 module _ {A B : Type 0} (R : Rule A B) (p : Held R) (input : List A) where
   within_both : (moving R p input ≤ width (R.left p.state)) × (moving R p input ≤ length (p.waiting ++ input))

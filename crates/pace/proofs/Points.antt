@@ -2,7 +2,7 @@
 use mathlib.Core.Path.{◌≡◌, refl}
 use mathlib.Core.List.{List, [], ◌∷◌}
 use native.Mathlib.Omega.{arith}
-use lib.ListN.{length, length_append, length_drop}
+use lib.ListN.{length, length-append, length-drop}
 use Rattle.mode.specs.Rule.{Rule, Blackout}
 use Rattle.pace.specs.Tick.{hold, opened, width, moves, ticked}
 use Rattle.pace.specs.Ticks.{P13, Each, ticks}
@@ -12,7 +12,7 @@ module _ {A B : Type 0} (R : Rule A B) (s : R.State) (scanning : R.left s ≡ 0)
   one_waits : (is : List (List A)) → Each 64 is → length is ≡ 1 → length (ticks R 64 (opened R (hold 64) s) is).waiting ≡ 64
   unfolding ticked
   one_waits [] e n = absurd (omega arith)
-  one_waits (i ∷ []) e n = rw (length_drop, scanning, e.0)
+  one_waits (i ∷ []) e n = rw (length-drop, scanning, e.0)
   one_waits (i ∷ j ∷ is) e n = absurd (omega arith)
 
   none_waits : (is : List (List A)) → Each 64 is → length is ≡ 2 → length (ticks R 64 (opened R (hold 64) s) is).waiting ≡ 0
@@ -21,7 +21,7 @@ module _ {A B : Type 0} (R : Rule A B) (s : R.State) (scanning : R.left s ≡ 0)
   none_waits (i ∷ []) e n = absurd (omega arith)
   none_waits (i ∷ j ∷ []) e n =
       let none : moves (width (R.left s)) (length i) ≡ 0 = rw (scanning, e.0) in
-      rw (none, length_drop, length_append, scanning, e.0, e.1.0)
+      rw (none, length-drop, length-append, scanning, e.0, e.1.0)
   none_waits (i ∷ j ∷ k ∷ is) e n = absurd (omega arith)
 
   pub p13 : Blackout R 1 → P13 R s

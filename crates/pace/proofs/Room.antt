@@ -4,11 +4,11 @@ use mathlib.Core.Path.{◌≡◌, refl, sym, ap, ◌∙◌, subst}
 use mathlib.Core.Logic.{◌⊎◌, inr, ⊎_elim}
 use mathlib.Core.List.{List}
 use Prim.Native.Nat.{ℕ, zero, suc, ◌+◌, ◌-◌, ◌*◌, ◌/◌, ◌≤◌, ◌<◌, max}
-use native.Mathlib.Nat.{mul_le_mul_right, le_of_mul_le_mul_right}
+use native.Mathlib.Nat.{mul-le-mul_right, le_of_mul-le-mul_right}
 use native.Mathlib.Decide.{dec_le}
 use native.Mathlib.Omega.{arith}
-use lib.ListN.{length, take, drop, length_drop}
-use lib.Seq.{length_take_le}
+use lib.ListN.{length, take, drop, length-drop}
+use lib.Seq.{length-take-le}
 use Rattle.mode.specs.Rule.{Rule, Blackout, after}
 use Rattle.mode.proofs.Runs.{left_down, left_scan}
 use Rattle.pace.specs.Tick.{width, moves}
@@ -43,7 +43,7 @@ module _ (D e L : ℕ) (some : 1 ≤ D) (some_l : 1 ≤ L) (is128 : D + e ≡ 12
   -- 128 bits move
   room_full : (g g' q : ℕ) → g ≤ suc g' → q ≤ most_waiting D → q < max 128 (D + g * e) → 128 ≤ q + D
       → (q + D - 128 ≤ most_waiting D) × (q + D - 128 < D + g' * e)
-  room_full g g' q le a b c = omega (arith, mul_le_mul_right e le)
+  room_full g g' q le a b c = omega (arith, mul-le-mul_right e le)
 
   -- the end of a blackout moves
   room_part : (l q : ℕ) → 1 ≤ l → q < max l D → l ≤ q + D → (q + D - l ≤ most_waiting D) × (q + D - l < D + L * e)
@@ -64,7 +64,7 @@ full_block L (suc k) = omega (arith, full_blackout L (suc k + 128) (omega arith)
 
 module _ {A B : Type 0} (R : Rule A B) (D L : ℕ) (law : Blackout R L) (some : 1 ≤ D) (rate : D * (L + 1) ≤ 128 * L) where
   below : D ≤ 128
-  below = le_of_mul_le_mul_right {k = L} (omega arith) law.some
+  below = le_of_mul-le-mul_right {k = L} (omega arith) law.some
 
   is128 : D + (128 - D) ≡ 128
   is128 = omega (arith, below)
@@ -80,8 +80,8 @@ module _ {A B : Type 0} (R : Rule A B) (D L : ℕ) (law : Blackout R L) (some : 
     moved_scan : 128 ≤ length all → R.left s ≡ 0 → Room D (128 - D) L 0 q → Moved s all 128
     unfolding Moved
     moved_scan h z r =
-        let t = length_take_le 128 all h in
-        rw (length_drop, n)
+        let t = length-take-le 128 all h in
+        rw (length-drop, n)
         (room _ _
         (room_full D (128 - D) L some law.some is128 rate L _ q (full_scan L _ (left_scan R L law s (take 128 all) z (omega arith))) r.most r.soon
         (omega arith)))
@@ -89,19 +89,19 @@ module _ {A B : Type 0} (R : Rule A B) (D L : ℕ) (law : Blackout R L) (some : 
     moved_block : (l : ℕ) → 128 ≤ length all → R.left s ≡ l + 128 → Room D (128 - D) L (l + 128) q → Moved s all 128
     unfolding Moved
     moved_block l h z r =
-        let t = length_take_le 128 all h in
+        let t = length-take-le 128 all h in
         let w : width (l + 128) ≡ 128 = width_block (l + 128) (inr (omega arith)) in
-        rw (length_drop, n, left_down R L law s (take 128 all) l (omega arith))
+        rw (length-drop, n, left_down R L law s (take 128 all) l (omega arith))
         (room _ _
         (room_full D (128 - D) L some law.some is128 rate (full L (l + 128)) _ q (full_block L l) r.most (rw w at r.soon) (omega arith)))
 
     moved_rest : (l : ℕ) → l ≤ length all → R.left s ≡ l → 0 < l → l < 128 → Room D (128 - D) L l q → Moved s all l
     unfolding Moved
     moved_rest l h z some' lt r =
-        let t = length_take_le l all h in
+        let t = length-take-le l all h in
         let w = width_rest l some' (omega arith) in
         let none : full L l ≡ 0 = omega (arith, full_blackout L l some') in
-        rw (length_drop, n, left_down R L law s (take l all) 0 (omega arith))
+        rw (length-drop, n, left_down R L law s (take l all) 0 (omega arith))
         (room _ _
         (room_part D (128 - D) L some law.some is128 rate l q (omega arith) (omega (arith, rw (none, w) at r.soon)) (omega arith)))
 

@@ -4,10 +4,10 @@ use mathlib.Core.Path.{◌≡◌, sym, ap, ◌∙◌}
 use mathlib.Core.Logic.{◌↔◌}
 use mathlib.Core.List.{List, [], ◌∷◌, ◌++◌}
 use Prim.Native.Nat.{ℕ, zero, suc, ◌+◌, ◌-◌, ◌*◌, ◌/◌, ◌≤◌, ◌<◌}
-use native.Mathlib.Nat.{le_div_iff_mul_le, div_lt_iff_lt_mul}
+use native.Mathlib.Nat.{le-div_iff_mul-le, div-lt_iff_lt-mul}
 use native.Mathlib.Omega.{arith}
-use lib.ListN.{length, take, length_append}
-use lib.Seq.{slice, length_take_le, drop_at}
+use lib.ListN.{length, take, length-append}
+use lib.Seq.{slice, length-take-le, drop_at}
 use Rattle.mode.specs.Rule.{Rule, Blackout, after, outs}
 use Rattle.pace.specs.Tick.{hold, opened, written, moving, ticked, closing, closed}
 use Rattle.pace.specs.Ticks.{least_hold, ticks, sent, joined, Each, Holds, Leaves}
@@ -20,7 +20,7 @@ hold_is_large D h = omega arith
 
 length_joined : {A : Type 0} (D : ℕ) (is : List (List A)) → Each D is → length (joined is) ≡ length is * D
 length_joined D [] e = omega arith
-length_joined D (i ∷ is) e = omega (arith, length_append i (joined is), length_joined D is e.1, e.0)
+length_joined D (i ∷ is) e = omega (arith, length-append i (joined is), length_joined D is e.1, e.0)
 
 pub each_take : {A : Type 0} (D k : ℕ) (is : List (List A)) → Each D is → Each D (take k is)
 each_take D zero is e = tt
@@ -30,9 +30,9 @@ each_take D (suc k) (i ∷ is) e = (e.0, each_take D k is e.1)
 -- the tick after the first t is the one of bit n
 turn : (D M t n : ℕ) → 1 ≤ D → ((t * D - M ≤ n) × (n < suc t * D - M)) ↔ (t ≡ (n + M) / D)
 turn D M t n h = (
-  λ b. omega (arith, (le_div_iff_mul_le {k = D} {x = t} {y = n + M} h).1 (omega arith), (div_lt_iff_lt_mul {k = D} {x = n + M} {y = suc t} h).1 (omega arith)),
-  λ e. let lo = (le_div_iff_mul_le {k = D} {x = t} {y = n + M} h).0 (omega arith) in
-      let hi = (div_lt_iff_lt_mul {k = D} {x = n + M} {y = suc t} h).0 (omega arith) in
+  λ b. omega (arith, (le-div_iff_mul-le {k = D} {x = t} {y = n + M} h).1 (omega arith), (div-lt_iff_lt-mul {k = D} {x = n + M} {y = suc t} h).1 (omega arith)),
+  λ e. let lo = (le-div_iff_mul-le {k = D} {x = t} {y = n + M} h).0 (omega arith) in
+      let hi = (div-lt_iff_lt-mul {k = D} {x = n + M} {y = suc t} h).0 (omega arith) in
       omega arith,
 )
 
@@ -88,7 +88,7 @@ module _ {A B : Type 0} (R : Rule A B) (D L M : ℕ) (law : Blackout R L) (some 
         → written R D (ticks R D (opened R M s₀) is) ≡ slice (length is * D - M) (suc (length is) * D - M) (outs R s₀ (joined is ++ i ++ more))
     a_tick_writes i size more =
         let n = length_joined D is each in
-        let m : length (joined is ++ i) - M ≡ suc (length is) * D - M = omega (arith, length_append (joined is) i) in
+        let m : length (joined is ++ i) - M ≡ suc (length is) * D - M = omega (arith, length-append (joined is) i) in
         let a : sent R D (opened R M s₀) is ++ written R D (ticks R D (opened R M s₀) is) ≡ take (suc (length is) * D - M) (outs R s₀ (joined is ++ i ++ more)) =
         rw (← m) (gone_is R D L M law some rate large s₀ _ _ _ (kept_tick R D L M law some rate large s₀ _ _ _ kept i size) more) in
         rw (← a) (sym (drop_at (sent R D (opened R M s₀) is) _ _ sent_count))
@@ -98,9 +98,9 @@ module _ {A B : Type 0} (R : Rule A B) (D L M : ℕ) (law : Blackout R L) (some 
       → Leaves R D (opened R M s₀) is n k ↔ (k ≡ (n + M) / D + 1)
   bit_leaves_in_tick is each n k one open' =
       let before : length (sent R D (opened R M s₀) (take (k - 1) is)) ≡ (k - 1) * D - M =
-      sent_count (take (k - 1) is) (each_take D (k - 1) is each) ∙ ap (λ (t : ℕ). t * D - M) (length_take_le (k - 1) is (omega arith)) in
+      sent_count (take (k - 1) is) (each_take D (k - 1) is each) ∙ ap (λ (t : ℕ). t * D - M) (length-take-le (k - 1) is (omega arith)) in
       let then : length (sent R D (opened R M s₀) (take k is)) ≡ suc (k - 1) * D - M =
-      sent_count (take k is) (each_take D k is each) ∙ ap (λ (t : ℕ). t * D - M) (length_take_le k is open' ∙ omega arith) in (
+      sent_count (take k is) (each_take D k is each) ∙ ap (λ (t : ℕ). t * D - M) (length-take-le k is open' ∙ omega arith) in (
         λ l. omega (arith, (turn D M (k - 1) n some).0 (omega (arith, l.not_before), omega (arith, l.by_then))),
         λ e. let b = (turn D M (k - 1) n some).1 (omega arith) in
             record { not_before = rw before b.0; by_then = rw then b.1 },

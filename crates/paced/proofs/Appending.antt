@@ -1,9 +1,9 @@
 -- Bits appended to an output: the writer is lent the part from the current byte on, and bits laid after others are laid as one with them.
 use mathlib.Core.Path.{◌≡◌, sym, ap, ◌∙◌}
-use mathlib.Core.List.{List, [], ◌++◌, append_nil}
+use mathlib.Core.List.{List, [], ◌++◌, append-nil}
 use Prim.Native.Nat.{ℕ, ◌+◌, ◌-◌, ◌*◌, ◌/◌, ◌%◌, ◌≤◌}
 use native.Mathlib.Omega.{arith}
-use lib.ListN.{length, take, drop, length_drop, drop_of_length_le}
+use lib.ListN.{length, take, drop, length-drop, drop_of_length-le}
 use lib.Seq.{take_all}
 use Rattle.bits.specs.Bits.{bits_of, pack, part, laid, wrote}
 use Rattle.bits.proofs.Lists.{Bytes}
@@ -16,12 +16,12 @@ pub appended : (o y b : List ℕ) (at n : ℕ) → Bytes o → n ≤ 128 → at 
     → take (at / 8) o ++ (y ++ drop (length o - at / 8) (drop (at / 8) o)) ≡ laid o at (take n (bits_of b))
 appended o y b at n h few fits e =
     let j : ℕ = at / 8 in
-    let l : length (drop j o) ≡ length o - j = length_drop j o in
-    let none : drop (length o - j) (drop j o) ≡ [] = drop_of_length_le (drop j o) {i = length o - j} (omega arith) in
+    let l : length (drop j o) ≡ length o - j = length-drop j o in
+    let none : drop (length o - j) (drop j o) ≡ [] = drop_of_length-le (drop j o) {i = length o - j} (omega arith) in
     let all : take (length o - j) (drop j o) ≡ drop j o = take_all (length o - j) (drop j o) (omega arith) in
     let z : 8 * j + at % 8 ≡ at = omega arith in
     (λ i. take j o ++ (e i ++ none i))
-    ∙ ap (λ (x : List ℕ). take j o ++ x) (append_nil (wrote (take (length o - j) (drop j o)) (at % 8) b n) ∙ ap (λ (x : List ℕ). wrote x (at % 8) b n) all ∙ wrote_laid (drop j o) (at % 8) b n few (omega arith))
+    ∙ ap (λ (x : List ℕ). take j o ++ x) (append-nil (wrote (take (length o - j) (drop j o)) (at % 8) b n) ∙ ap (λ (x : List ℕ). wrote x (at % 8) b n) all ∙ wrote_laid (drop j o) (at % 8) b n few (omega arith))
     ∙ sym (laid_from o j (at % 8) (take n (bits_of b)) h (omega arith))
     ∙ ap (λ (i : ℕ). laid o i (take n (bits_of b))) z
 

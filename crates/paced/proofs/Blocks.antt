@@ -3,8 +3,8 @@ use mathlib.Core.Path.{◌≡◌, sym, ap, subst, ◌∙◌}
 use mathlib.Core.List.{List, [], ◌++◌}
 use Prim.Native.Nat.{ℕ, ◌+◌, ◌*◌, ◌≤◌, ◌<◌}
 use native.Mathlib.Omega.{arith}
-use lib.ListN.{length, take, drop, take_append_drop}
-use borrow.Author.Tests.{lt_leb, le_leb}
+use lib.ListN.{length, take, drop, take-append-drop}
+use borrow.Author.Tests.{lt-leb, le-leb}
 use Rattle.mode.specs.Rule.{after, outs}
 use Rattle.mode.proofs.Runs.{length_outs}
 use Rattle.bits.specs.Bits.{bits_of, pack, part, laid}
@@ -73,10 +73,10 @@ module _ (s : Line) (g : Good s) where
         let none : part q at 0 ≡ [] = part_none q at 0 (omega arith) in
         let z : at + 0 ≡ at = omega arith in
         record {
-          count = (let t : 0 ≡ moves w n = simp (lt_leb w n few) in t ∙ ap (λ (k : ℕ). moves k n) we);
+          count = (let t : 0 ≡ moves w n = simp (lt-leb w n few) in t ∙ ap (λ (k : ℕ). moves k n) we);
           line = sym (holds s g) ∙ ap next (sym none);
           queue = sym (subst (λ (k : ℕ). pack k (bits_of q) ≡ q) lq (pack_bits q bq))
-              ∙ ap (pack 60) (sym (take_append_drop at (bits_of q)))
+              ∙ ap (pack 60) (sym (take-append-drop at (bits_of q)))
               ∙ (λ i. pack 60 (sym (part_start q at) i ++ (out (sym none i) ++ drop (sym z i) (bits_of q))));
         }
 
@@ -86,7 +86,7 @@ module _ (s : Line) (g : Good s) where
     move_some b o e t enough few read te oe ee =
         let same : part b 0 w ≡ part q at w = bits_read q b at w read few (omega arith) in
         record {
-          count = (let t : w ≡ moves w n = simp (le_leb w n enough) in t ∙ ap (λ (k : ℕ). moves k n) we);
+          count = (let t : w ≡ moves w n = simp (le-leb w n enough) in t ∙ ap (λ (k : ℕ). moves k n) we);
           line = te ∙ ap next same;
           queue = ee ∙ ap (λ (x : List ℕ). pack 60 (part q 0 at ++ (x ++ drop (at + w) (bits_of q)))) (out_bits q b o at w read few (omega arith) oe);
         }

@@ -3,8 +3,8 @@ use mathlib.Core.Path.{◌≡◌, sym, ap, subst, ◌∙◌}
 use mathlib.Core.List.{List, [], ◌++◌, append_assoc}
 use Prim.Native.Nat.{ℕ, ◌+◌, ◌-◌, ◌*◌, ◌/◌, ◌%◌, ◌≤◌}
 use native.Mathlib.Omega.{arith}
-use lib.ListN.{length, take, drop, length_append, length_drop, take_append_drop}
-use lib.Seq.{drop_drop, drop_at, length_take_le}
+use lib.ListN.{length, take, drop, length-append, length-drop, take-append-drop}
+use lib.Seq.{drop-drop, drop_at, length-take-le}
 use Rattle.bits.specs.Bits.{bits_of, pack, part, laid, wrote}
 use Rattle.bits.proofs.Lists.{Small, Bytes, small_take, bytes_drop}
 use Rattle.bits.proofs.Packed.{length_bits, small_bits, length_pack, bits_drop, pack_append, pack_front, pack_bits, pack_past}
@@ -49,11 +49,11 @@ replaced_is q b kept t e at n end rest lq hq lb few ee le er read first second =
     let whole : end + rest ≡ 8 * N = omega arith in
     let fits : N ≤ 60 = omega arith in
     let l_b : length B ≡ 480 = length_bits q ∙ ap (λ (k : ℕ). 8 * k) lq in
-    let l_o : length O ≡ n = length_take_le n (bits_of b) (rw length_bits (omega arith)) in
+    let l_o : length O ≡ n = length-take-le n (bits_of b) (rw length_bits (omega arith)) in
     let l_t : length T ≡ rest = length_part q end rest (omega arith) in
-    let l_a : length (take at B) ≡ at = length_take_le at B (omega arith) in
-    let l_ot : length (O ++ T) ≡ n + rest = length_append O T ∙ (λ i. l_o i + l_t i) in
-    let l_x : length X ≡ 8 * N = length_append (take at B) (O ++ T) ∙ (λ i. l_a i + l_ot i) ∙ (let z : at + (n + rest) ≡ 8 * N = omega arith in z) in
+    let l_a : length (take at B) ≡ at = length-take-le at B (omega arith) in
+    let l_ot : length (O ++ T) ≡ n + rest = length-append O T ∙ (λ i. l_o i + l_t i) in
+    let l_x : length X ≡ 8 * N = length-append (take at B) (O ++ T) ∙ (λ i. l_a i + l_ot i) ∙ (let z : at + (n + rest) ≡ 8 * N = omega arith in z) in
     let small_o : Small O = small_take n (bits_of b) (small_bits b) in
     let one : t ≡ laid q at O = first ∙ wrote_laid q at b n few (omega arith) in
     let lt : length t ≡ 60 = ap length one ∙ length_laid q at O (omega arith) ∙ lq in
@@ -65,11 +65,11 @@ replaced_is q b kept t e at n end rest lq hq lb few ee le er read first second =
     ∙ (λ i. laid (one i) (at_end i) T)
     ∙ laid_laid q at O T small_o (omega arith) in
     let D : List ℕ = drop rest (drop end B) in
-    let behind : drop end B ≡ T ++ D = sym (ap (λ (l : List ℕ). l ++ D) (part_is q end rest) ∙ take_append_drop rest (drop end B)) in
+    let behind : drop end B ≡ T ++ D = sym (ap (λ (l : List ℕ). l ++ D) (part_is q end rest) ∙ take-append-drop rest (drop end B)) in
     let regroup : take at B ++ (O ++ drop end B) ≡ X ++ D =
     ap (λ (l : List ℕ). take at B ++ (O ++ l)) behind ∙ ap (λ (l : List ℕ). take at B ++ l) (sym (append_assoc O T D)) ∙ sym (append_assoc (take at B) (O ++ T) D) in
-    let tail : D ≡ bits_of (drop N q) = drop_drop rest end B ∙ ap (λ (k : ℕ). drop k B) whole ∙ bits_drop N q in
-    let ld : length (drop N q) ≡ 60 - N = length_drop N q ∙ ap (λ (k : ℕ). k - N) lq in
+    let tail : D ≡ bits_of (drop N q) = drop-drop rest end B ∙ ap (λ (k : ℕ). drop k B) whole ∙ bits_drop N q in
+    let ld : length (drop N q) ≡ 60 - N = length-drop N q ∙ ap (λ (k : ℕ). k - N) lq in
     let later : pack (60 - N) (drop (8 * N) (X ++ D)) ≡ drop N q =
     ap (pack (60 - N)) (drop_at X D (8 * N) l_x ∙ tail)
     ∙ subst (λ (k : ℕ). pack k (bits_of (drop N q)) ≡ drop N q) ld (pack_bits (drop N q) (bytes_drop q N hq)) in

@@ -5,8 +5,8 @@ use mathlib.Core.Logic.{⊎_elim}
 use mathlib.Core.List.{List, ◌++◌, append_assoc}
 use Prim.Native.Nat.{ℕ, ◌+◌, ◌-◌, ◌*◌, ◌≤◌}
 use native.Mathlib.Omega.{arith}
-use lib.ListN.{length, take, drop, length_append, length_drop}
-use lib.Seq.{take_at, drop_at, drop_drop, length_take_le}
+use lib.ListN.{length, take, drop, length-append, length-drop}
+use lib.Seq.{take_at, drop_at, drop-drop, length-take-le}
 use Rattle.mode.specs.Rule.{Rule, after, outs}
 use Rattle.mode.proofs.Runs.{length_outs}
 use Rattle.bits.specs.Bits.{bits_of, pack, part}
@@ -68,7 +68,7 @@ module _ (p : Paced) (o : Open p) where
   leaving_bits = take_part p.queue 0 p.ready (p.d - p.fillers) (leaving_in p o)
 
   pub length_leaving : length (leaving_from p) ≡ p.d - p.fillers
-  length_leaving = length_take_le (p.d - p.fillers) ready_bits (omega (arith, leaving_in p o, length_ready_bits))
+  length_leaving = length-take-le (p.d - p.fillers) ready_bits (omega (arith, leaving_in p o, length_ready_bits))
 
   module _ (input : List ℕ) (more : p.d ≤ 8 * length input) where
     abbrev joining : List ℕ
@@ -76,7 +76,7 @@ module _ (p : Paced) (o : Open p) where
 
     length_joining : length joining ≡ p.waiting + p.d
     length_joining =
-        length_append waiting_bits (part input 0 p.d) ∙ (λ i. length_waiting_bits i + length_part input 0 p.d (omega arith) i)
+        length-append waiting_bits (part input 0 p.d) ∙ (λ i. length_waiting_bits i + length_part input 0 p.d (omega arith) i)
 
     module _ (r k : ℕ) (re : r ≡ p.d - p.fillers) (ke : k ≡ p.ready - r) (q : List ℕ) (qe : q ≡ pack 60 (part p.queue r (k + p.waiting) ++ part input 0 p.d))
         (m : Move) (ps : Passes p.line q k (p.waiting + p.d) m) where
@@ -110,7 +110,7 @@ module _ (p : Paced) (o : Open p) where
           (small_append waiting_bits (part input 0 p.d) (small_part p.queue p.ready p.waiting) (small_part input 0 p.d))
 
       length_X : length X ≡ k + (p.waiting + p.d)
-      length_X = length_append stays joining ∙ (λ i. length_stays i + length_joining i)
+      length_X = length-append stays joining ∙ (λ i. length_stays i + length_joining i)
 
       few_x : length X ≤ 8 * 60
       few_x = omega (arith, length_X, held_in p o, re, ke)
@@ -146,16 +146,16 @@ module _ (p : Paced) (o : Open p) where
           ∙ (λ i. pack 60 (front_is i ++ (outs R (view p.line) (passes_is i) ++ drop (k + count_is i) (bits_of (queue_joined i)))))
           ∙ ap (pack 60) (sym (append_assoc stays out (drop (k + c) (bits_of (pack 60 X)))))
           ∙ pack_past 60 (stays ++ out) X (k + c) small_x few_x
-          ∙ ap (λ (l : List ℕ). pack 60 ((stays ++ out) ++ l)) (sym (drop_drop c k X) ∙ ap (drop c) (drop_at stays joining k length_stays))
+          ∙ ap (λ (l : List ℕ). pack 60 ((stays ++ out) ++ l)) (sym (drop-drop c k X) ∙ ap (drop c) (drop_at stays joining k length_stays))
           ∙ ap (λ (l : List ℕ). pack 60 ((l ++ out) ++ drop c joining)) (sym stays_is)
 
       ready_is : k + m.count ≡ length (drop (p.d - p.fillers) ready_bits ++ out)
       ready_is =
-          let a : length out ≡ c = length_outs R (view p.line) (take c joining) ∙ length_take_le c joining count_in in
-          sym (length_append (drop (p.d - p.fillers) ready_bits) out ∙ (λ i. (ap length stays_is ∙ length_stays) i + (a ∙ sym count_is) i))
+          let a : length out ≡ c = length_outs R (view p.line) (take c joining) ∙ length-take-le c joining count_in in
+          sym (length-append (drop (p.d - p.fillers) ready_bits) out ∙ (λ i. (ap length stays_is ∙ length_stays) i + (a ∙ sym count_is) i))
 
       waiting_is : p.waiting + p.d - m.count ≡ length (drop c joining)
-      waiting_is = sym (length_drop c joining ∙ (λ i. length_joining i - sym count_is i))
+      waiting_is = sym (length-drop c joining ∙ (λ i. length_joining i - sym count_is i))
 
       pub tick_is : (still ready fillers : ℕ) → still ≡ p.waiting + p.d - m.count → ready ≡ k + m.count → fillers ≡ p.fillers - p.d
           → record {

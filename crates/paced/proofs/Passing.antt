@@ -6,9 +6,9 @@ use mathlib.Core.Logic.{◌⊎◌, inl, inr}
 use mathlib.Core.List.{List}
 use Prim.Native.Nat.{ℕ, ◌+◌, ◌-◌, ◌*◌, ◌/◌, ◌<◌, ◌≤◌}
 use native.Mathlib.Omega.{arith}
-use lib.ListN.{length, length_take}
+use lib.ListN.{length, length-take}
 use lib.Dec.{ltb}
-use borrow.Author.Tests.{ne_eqb, le_ltb, lt_ltb}
+use borrow.Author.Tests.{ne_eqb, le-ltb, lt-ltb}
 use Rattle.mode.specs.Rule.{outs}
 use Rattle.bits.specs.Bits.{part, laid}
 use Rattle.bits.proofs.Lists.{Small, small_take, small_append}
@@ -34,7 +34,7 @@ use Rattle.paced.specs.Closing.{last_from, close_answer, closing, close_writes}
 pub opens : (key iv : List ℕ) (l d : ℕ) → length key ≡ 16 → length iv ≡ 16 → 1 ≤ l → l ≤ 11 → 1 ≤ d → d * (l + 1) ≤ 128 * l → paced_answer key iv l d ≡ Answer.Done
 unfolding paced_answer
 opens key iv l d hk hv low high some slow =
-    rw (line_opens key iv l hk hv low high, ne_eqb d 0 (omega arith), le_ltb (128 * l) (d * (l + 1)) slow)
+    rw (line_opens key iv l hk hv low high, ne_eqb d 0 (omega arith), le-ltb (128 * l) (d * (l + 1)) slow)
 
 -- ---- what a tick and a closing write
 
@@ -44,7 +44,7 @@ module _ (p : Paced) where
 
   -- no more bits than a tick has places
   pub few_leaving : length (leaving_from p) ≤ p.d
-  few_leaving = simp length_take (omega arith)
+  few_leaving = simp length-take (omega arith)
 
   pub small_last : Small (last_from p)
   small_last =
@@ -62,7 +62,7 @@ module _ (p : Paced) (passes : faulty p ≡ false) (is_open : p.closed ≡ false
   module _ (b z : List ℕ) (hb : p.d ≤ 8 * length b) (hz : p.d ≤ 8 * length z) where
     pub ticks : tick_answer p b z ≡ Ticked.Moved (length (leaving_from p)) (length (held_after p b).waiting)
     unfolding tick_answer
-    ticks = rw (passes, is_open, le_ltb (length b) ((p.d + 7) / 8) (omega arith), le_ltb (length z) ((p.d + 7) / 8) (omega arith))
+    ticks = rw (passes, is_open, le-ltb (length b) ((p.d + 7) / 8) (omega arith), le-ltb (length z) ((p.d + 7) / 8) (omega arith))
 
     pub ticks_line : (ticking p b z).line ≡ keeping p (held_after p b)
     ticks_line = ap (λ (a : Ticked). outcome a (keeping p (held_after p b)) p) ticks
@@ -76,7 +76,7 @@ module _ (p : Paced) (passes : faulty p ≡ false) (is_open : p.closed ≡ false
   module _ (z : List ℕ) (hz : p.waiting + p.ready ≤ 8 * length z) where
     pub closes : close_answer p z ≡ Ticked.Moved (length (last_from p)) 0
     unfolding close_answer
-    closes = rw (passes, is_open, le_ltb (length z) ((p.waiting + p.ready + 7) / 8) (omega arith))
+    closes = rw (passes, is_open, le-ltb (length z) ((p.waiting + p.ready + 7) / 8) (omega arith))
 
     pub closes_write : close_writes p z ≡ laid z 0 (last_from p)
     closes_write = ap (λ (a : Ticked). outcome a (laid z 0 (last_from p)) z) closes
@@ -91,11 +91,11 @@ module _ (p : Paced) (passes : faulty p ≡ false) (is_open : p.closed ≡ false
 
   pub short_ticks : (b z : List ℕ) → (8 * length b < p.d) ⊎ (8 * length z < p.d) → (ticking p b z).line ≡ p
   unfolding tick_answer
-  short_ticks b z (inl h) = rw (passes, is_open, lt_ltb (length b) ((p.d + 7) / 8) (omega arith)) refl
+  short_ticks b z (inl h) = rw (passes, is_open, lt-ltb (length b) ((p.d + 7) / 8) (omega arith)) refl
   short_ticks b z (inr h) = go (ltb (length b) ((p.d + 7) / 8))
     where
       short : ltb (length z) ((p.d + 7) / 8) ≡ true
-      short = lt_ltb (length z) ((p.d + 7) / 8) (omega arith)
+      short = lt-ltb (length z) ((p.d + 7) / 8) (omega arith)
 
       go : (t : Bool)
           → outcome (cond (faulty p) (Ticked.Refused (Refusal.State)) (cond p.closed (Ticked.Refused (Refusal.Closed)) (cond t (Ticked.Refused (Refusal.Input))
@@ -107,7 +107,7 @@ module _ (p : Paced) (passes : faulty p ≡ false) (is_open : p.closed ≡ false
 
   pub short_closes : (z : List ℕ) → 8 * length z < p.waiting + p.ready → (closing p z).line ≡ p
   unfolding close_answer
-  short_closes z h = rw (passes, is_open, lt_ltb (length z) ((p.waiting + p.ready + 7) / 8) (omega arith)) refl
+  short_closes z h = rw (passes, is_open, lt-ltb (length z) ((p.waiting + p.ready + 7) / 8) (omega arith)) refl
 
 -- ---- on a closed line
 

@@ -5,8 +5,8 @@ use mathlib.Core.Bool.{true, false}
 use mathlib.Core.List.{List, [], ◌∷◌, ◌++◌}
 use Prim.Native.Nat.{ℕ, suc, ◌+◌, ◌-◌, ◌*◌, ◌≤◌}
 use native.Mathlib.Omega.{arith}
-use lib.ListN.{length, take, drop, length_append}
-use lib.Seq.{slice, take_at, drop_at, take_all, take_length}
+use lib.ListN.{length, take, drop, length-append}
+use lib.Seq.{slice, take_at, drop_at, take_all, take-length}
 use Rattle.mode.specs.Rule.{Rule, Blackout, after, outs}
 use Rattle.mode.specs.Words.{Within}
 use Rattle.bits.specs.Bits.{bits_of, pack, part}
@@ -111,7 +111,7 @@ module _ (s : Line) (g : Good s) (scanning : s.left ≡ 0) (d : ℕ) (some : 1 �
         (small_right kept.passed h.waiting (subst Small kept.split small))
 
     length_held : length (h.ready ++ h.waiting) ≡ length h.ready + length h.waiting
-    length_held = length_append h.ready h.waiting
+    length_held = length-append h.ready h.waiting
 
     few_held : length (h.ready ++ h.waiting) ≤ 8 * 60
     few_held = omega (arith, length_held, kept.together, rate_low d s.l g.l_high slow)
@@ -123,7 +123,7 @@ module _ (s : Line) (g : Good s) (scanning : s.left ≡ 0) (d : ℕ) (some : 1 �
       ready = (part_pack 60 (h.ready ++ h.waiting) 0 (length h.ready) small_held few_held (omega (arith, length_held)) ∙ take_at h.ready h.waiting (length h.ready) refl) i;
       waiting = (part_pack 60 (h.ready ++ h.waiting) (length h.ready) (length h.waiting) small_held few_held (omega (arith, length_held))
           ∙ ap (take (length h.waiting)) (drop_at h.ready h.waiting (length h.ready) refl)
-          ∙ take_length h.waiting) i;
+          ∙ take-length h.waiting) i;
       fillers = h.fillers;
     }
 

@@ -3,11 +3,11 @@ use mathlib.Core.Path.{◌≡◌, refl, sym, ap, ◌∙◌}
 use mathlib.Core.Bool.{true, false, not, true≢false}
 use Prim.Native.Nat.{ℕ, zero, suc, ◌+◌, ◌-◌, ◌*◌, ◌≤◌, ◌<◌}
 use native.Mathlib.Decide.{dec_lt}
-use native.Mathlib.Nat.{mul_le_mul_right}
+use native.Mathlib.Nat.{mul-le-mul_right}
 use native.Mathlib.Omega.{arith}
 use lib.Dec.{ltb, eqb}
 use lib.ListN.{length, drop}
-use borrow.Author.Tests.{ltb_false, eqb_true, eq_eqb, ne_eqb, le_ltb, not_false}
+use borrow.Author.Tests.{ltb-false, eqb-true, eq-eqb, ne_eqb, le-ltb, not-false}
 use Rattle.bits.specs.Bits.{bits_of, pack, part}
 use Rattle.bits.specs.Blank.{blank}
 use Rattle.bits.proofs.Lists.{Bytes}
@@ -25,22 +25,22 @@ use Rattle.paced.proofs.Joining.{length_packed}
 pub rate_low : (d l : ℕ) → l ≤ 11 → d * (l + 1) ≤ 128 * l → d ≤ 117
 rate_low d l le slow =
     elim (dec_lt 117 d) [
-      | yes more ↦ (let m : 118 * (l + 1) ≤ d * (l + 1) = mul_le_mul_right (l + 1) more in absurd (omega arith))
+      | yes more ↦ (let m : 118 * (l + 1) ≤ d * (l + 1) = mul-le-mul_right (l + 1) more in absurd (omega arith))
       | no few ↦ omega arith
     ]
 
 pub slow_of : (d l : ℕ) → too_fast d l ≡ false → (1 ≤ d) × (d * (l + 1) ≤ 128 * l)
 slow_of d l e =
     let q = neither (eqb d 0) (ltb (128 * l) (d * (l + 1))) e in
-    let slow : d * (l + 1) ≤ 128 * l = ltb_false (128 * l) (d * (l + 1)) q.1 in
+    let slow : d * (l + 1) ≤ 128 * l = ltb-false (128 * l) (d * (l + 1)) q.1 in
     (some d q.0, slow)
   where
     some : (d : ℕ) → eqb d 0 ≡ false → 1 ≤ d
-    some zero e = absurd (true≢false (sym (eq_eqb 0 0 refl) ∙ e))
+    some zero e = absurd (true≢false (sym (eq-eqb 0 0 refl) ∙ e))
     some (suc d) e = omega arith
 
 pub slow_passes : (d l : ℕ) → 1 ≤ d → d * (l + 1) ≤ 128 * l → too_fast d l ≡ false
-slow_passes d l some slow = simp (ne_eqb d 0 (λ e. absurd (omega arith)), le_ltb (128 * l) (d * (l + 1)) slow)
+slow_passes d l some slow = simp (ne_eqb d 0 (λ e. absurd (omega arith)), le-ltb (128 * l) (d * (l + 1)) slow)
 
 module _ (p : Paced) where
   pub open_of : faulty p ≡ false → p.closed ≡ false → p.line.pattern < 256 → length p.line.iv ≡ 16 → Bytes p.line.iv → length p.queue ≡ 60 → Bytes p.queue → Open p
@@ -57,9 +57,9 @@ module _ (p : Paced) where
         some = rate.0;
         slow = rate.1;
         is_open = is_open;
-        together = eqb_true (p.waiting + p.ready + p.fillers) (hold p.d) (not_false _ c.0);
-        waiting_fits = ltb_false (hold p.d - p.d) p.waiting c.1;
-        queue_is = blank_pack 60 p.queue (p.ready + p.waiting) lq bq (not_false _ q3.1) ∙ ap (pack 60) (sym (part_start p.queue (p.ready + p.waiting)));
+        together = eqb-true (p.waiting + p.ready + p.fillers) (hold p.d) (not-false _ c.0);
+        waiting_fits = ltb-false (hold p.d - p.d) p.waiting c.1;
+        queue_is = blank_pack 60 p.queue (p.ready + p.waiting) lq bq (not-false _ q3.1) ∙ ap (pack 60) (sym (part_start p.queue (p.ready + p.waiting)));
       }
 
   -- and the other way round
@@ -68,8 +68,8 @@ module _ (p : Paced) where
   open_passes o =
       let f1 : line_faulty p.line ≡ false = passes p.line o.good in
       let f2 : too_fast p.d p.line.l ≡ false = slow_passes p.d p.line.l o.some o.slow in
-      let f3 : eqb (p.waiting + p.ready + p.fillers) (hold p.d) ≡ true = eq_eqb (p.waiting + p.ready + p.fillers) (hold p.d) o.together in
-      let f4 : ltb (hold p.d - p.d) p.waiting ≡ false = le_ltb (hold p.d - p.d) p.waiting o.waiting_fits in
+      let f3 : eqb (p.waiting + p.ready + p.fillers) (hold p.d) ≡ true = eq-eqb (p.waiting + p.ready + p.fillers) (hold p.d) o.together in
+      let f4 : ltb (hold p.d - p.d) p.waiting ≡ false = le-ltb (hold p.d - p.d) p.waiting o.waiting_fits in
       let f5 : blank (drop (p.ready + p.waiting) (bits_of p.queue)) ≡ true =
       pack_blank 60 p.queue (p.ready + p.waiting) (o.queue_is ∙ ap (pack 60) (part_start p.queue (p.ready + p.waiting))) in
       simp (f1, f2, o.is_open, f3, f4, f5)

@@ -1,10 +1,10 @@
 -- Closing: the ready bits laid in the output, and the waiting bits, passed, laid after them, are laid as one.
 use mathlib.Core.Path.{◌≡◌, sym, ap, ◌∙◌}
 use mathlib.Core.Bool.{true}
-use mathlib.Core.List.{List, [], ◌++◌, append_nil}
+use mathlib.Core.List.{List, [], ◌++◌, append-nil}
 use Prim.Native.Nat.{ℕ, ◌+◌, ◌*◌, ◌≤◌}
 use native.Mathlib.Omega.{arith}
-use lib.ListN.{length, replicate, length_append}
+use lib.ListN.{length, replicate, length-append}
 use Rattle.mode.specs.Rule.{Rule, after, outs}
 use Rattle.mode.proofs.Runs.{length_outs}
 use Rattle.bits.specs.Bits.{part, laid}
@@ -28,7 +28,7 @@ laid_on q o e b n fits h =
     (λ i. laid (h i) (z i) b) ∙ laid_laid o 0 (part q 0 n) b (small_part q 0 n) (omega arith)
 
 pub clean : (q o e : List ℕ) (n : ℕ) → n ≤ 8 * length q → e ≡ laid o 0 (part q 0 n) → laid e n [] ≡ e
-clean q o e n fits h = laid_on q o e [] n fits h ∙ ap (laid o 0) (append_nil (part q 0 n)) ∙ sym h
+clean q o e n fits h = laid_on q o e [] n fits h ∙ ap (laid o 0) (append-nil (part q 0 n)) ∙ sym h
 
 module _ (p : Paced) (o : Open p) where
   abbrev R : Rule ℕ ℕ
@@ -36,7 +36,7 @@ module _ (p : Paced) (o : Open p) where
 
   length_last : p.ready + p.waiting ≡ length (last_from p)
   length_last =
-      sym (length_append (ready_bits p o) (outs R (view p.line) (waiting_bits p o))
+      sym (length-append (ready_bits p o) (outs R (view p.line) (waiting_bits p o))
       ∙ (λ i. length_ready_bits p o i + (length_outs R (view p.line) (waiting_bits p o) ∙ length_waiting_bits p o) i))
 
   pub close_is : (d d₁ d₂ : List ℕ) (t : Line) (rd wt : ℕ) → rd ≡ p.ready → wt ≡ p.waiting → d₁ ≡ laid d 0 (part p.queue 0 rd) → PassedOn p.line p.queue rd wt d₁ t d₂

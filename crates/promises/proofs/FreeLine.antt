@@ -6,7 +6,7 @@ use mathlib.Core.List.{List, [], ◌∷◌, ◌++◌}
 use Prim.Native.Nat.{ℕ, ◌+◌, ◌*◌, ◌/◌, ◌<◌, ◌≤◌}
 use native.Mathlib.Omega.{arith}
 use lib.ListN.{length, take, drop}
-use borrow.Author.Tests.{ltb_false}
+use borrow.Author.Tests.{ltb-false}
 use Rattle.refusal.specs.declared.Answer.{Answer}
 use Rattle.refusal.specs.Numbers.{outcome}
 use Rattle.aes.specs.Cipher.{aes128}
@@ -43,7 +43,7 @@ module _ (g : Line) (n : ℕ) (input output : List ℕ) (done : run_answer g n i
   pub ran_out : part (written g n input output) 0 n ≡ outs (rule_of g) (view g) (part input 0 n)
   ran_out =
       let none = (done_exactly (run_tests g n input output)).0 (sym (run_tries g n input output) ∙ done) in
-      let fit : length (part input 0 n) ≡ n = length_part input 0 n (omega (arith, ltb_false (length input) ((n + 7) / 8) none.1.1.0)) in
+      let fit : length (part input 0 n) ≡ n = length_part input 0 n (omega (arith, ltb-false (length input) ((n + 7) / 8) none.1.1.0)) in
       let made : List ℕ = outs (rule_of g) (view g) (part input 0 n) in
       let many : length made ≡ n = length_outs (rule_of g) (view g) (part input 0 n) ∙ fit in
       ap (λ (a : Answer). part (outcome a (laid output 0 made) output) 0 n) done

@@ -6,7 +6,7 @@ use mathlib.Core.List.{List}
 use Prim.Native.Nat.{ℕ, ◌<◌}
 use lib.Dec.{leb}
 use lib.ListN.{length}
-use borrow.Author.Tests.{lt_leb}
+use borrow.Author.Tests.{lt-leb}
 use Rattle.refusal.specs.declared.Answer.{Answer}
 use Rattle.refusal.specs.Numbers.{number_of, outcome}
 use Rattle.line.specs.Free.{opening, running}
@@ -25,10 +25,10 @@ use Rattle.tisarqluk.specs.PacedCalls.{opened_answer as paced_opened_answer, ope
 
 module _ (s key iv : List ℕ) (pattern l direction d : ℕ) where
   pub short_free_refused : length s < 58 → opened_answer s key iv pattern l direction ≡ 9
-  short_free_refused h = ap (λ (b : Bool). cond b (number_of (opening key iv pattern l (receives direction)).answer) 9) (lt_leb 58 (length s) h)
+  short_free_refused h = ap (λ (b : Bool). cond b (number_of (opening key iv pattern l (receives direction)).answer) 9) (lt-leb 58 (length s) h)
 
   pub short_paced_refused : length s < 126 → paced_opened_answer s key iv pattern l direction d ≡ 9
-  short_paced_refused h = ap (λ (b : Bool). cond b (number_of (paced_opening key iv pattern l (receives direction) d).answer) 9) (lt_leb 126 (length s) h)
+  short_paced_refused h = ap (λ (b : Bool). cond b (number_of (paced_opening key iv pattern l (receives direction) d).answer) 9) (lt-leb 126 (length s) h)
 
 module _ (s input output : List ℕ) where
   pub no_free_record : (n : ℕ) → holds_free s ≡ false → ran_answer s n input output ≡ 9

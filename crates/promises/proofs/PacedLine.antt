@@ -3,7 +3,7 @@
 -- paced lines too.
 use mathlib.Core.Path.{◌≡◌, refl, sym, ap, subst, ◌∙◌}
 use mathlib.Core.Bool.{Bool, true, false}
-use mathlib.Core.List.{List, [], ◌∷◌, ◌++◌, append_nil, append_assoc}
+use mathlib.Core.List.{List, [], ◌∷◌, ◌++◌, append-nil, append_assoc}
 use Prim.Native.Nat.{ℕ, suc, ◌+◌, ◌-◌, ◌*◌, ◌/◌, ◌<◌, ◌≤◌}
 use native.Mathlib.Omega.{arith}
 use lib.ListN.{length, take}
@@ -50,7 +50,7 @@ module _ (s : Line) (good : Good s) (scanning : s.left ≡ 0) (D : ℕ) (some : 
 
   walk : (cs : List Turn) (done : List (List ℕ)) → Each D done → Small (joined done) → Roomy D cs
       → (paced (P done) cs ≡ P (done ++ inputs D cs)) × (wrote (P done) cs ≡ sent R D (held done) (inputs D cs))
-  walk [] done e b r = (ap P (sym (append_nil done)), refl)
+  walk [] done e b r = (ap P (sym (append-nil done)), refl)
   walk (c ∷ cs) done e b r =
       let i : List ℕ = part c.input 0 D in
       let passes : faulty (P done) ≡ false = record_passes s good scanning D some rate done e b in

@@ -4,7 +4,7 @@ use mathlib.Core.Bool.{true}
 use mathlib.Core.List.{List, [], ◌∷◌}
 use Prim.Native.Nat.{ℕ, ◌*◌}
 use native.Mathlib.Omega.{arith}
-use lib.ListN.{length, take, length_take}
+use lib.ListN.{length, take, length-take}
 use lib.Seq.{take_all}
 use Rattle.aes.proofs.Examples.{product_example, s_box_example, s_box_of_zero}
 use Rattle.bits.specs.Bits.{bits_of, pack, digits}
@@ -29,8 +29,8 @@ module _ (key iv : List ℕ) where
       let ws : List ℕ = take 128 (bits_of v) in
       received (aes (box g)) (settings g) (view g) (1 ∷ 0 ∷ 0 ∷ 0 ∷ 0 ∷ 0 ∷ 0 ∷ 0 ∷ ws)
       ∙ finds_sets (aes (box g)) (settings g) (view g) (1 ∷ 0 ∷ 0 ∷ 0 ∷ 0 ∷ 0 ∷ 0 ∷ []) 0 ws (omega arith) (record { scanning = refl; match = refl })
-      (simp length_take (omega (arith, long)))
-      ∙ ap (λ (l : List ℕ). opened (record { counter = pack 16 l; place = 0 })) (take_all 128 ws (simp length_take (omega arith)) ∙ all)
+      (simp length-take (omega (arith, long)))
+      ∙ ap (λ (l : List ℕ). opened (record { counter = pack 16 l; place = 0 })) (take_all 128 ws (simp length-take (omega arith)) ∙ all)
       ∙ ap (λ (l : List ℕ). opened (record { counter = l; place = 0 })) (subst (λ (n : ℕ). pack n (bits_of v) ≡ v) e (pack_bits v b))
 
   pub points : Points key iv

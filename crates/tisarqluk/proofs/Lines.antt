@@ -4,7 +4,7 @@ use mathlib.Core.Path.{◌≡◌, refl, ap}
 use mathlib.Core.List.{List, [], ◌∷◌, ◌++◌, append_assoc}
 use Prim.Native.Nat.{ℕ, ◌+◌, ◌*◌, ◌≤◌, ◌<◌}
 use native.Mathlib.Omega.{arith}
-use lib.ListN.{length, get_or, drop, length_append}
+use lib.ListN.{length, get_or, drop, length-append}
 use Rattle.bits.proofs.Lists.{Bytes}
 use Rattle.line.specs.declared.record.Line.{Line}
 use Rattle.tisarqluk.specs.FreeRecord.{settings_of, numbers_of, line_bytes, line_in}
@@ -19,7 +19,7 @@ pub record Shaped (s : Line) : Type 0 where
 
 pub length_line : (kind : ℕ) (s : Line) → Shaped s → length (line_bytes kind s) ≡ 58
 unfolding line_bytes
-length_line kind s g = simp length_append (omega (arith, g.key, g.counter, g.iv))
+length_line kind s g = simp length-append (omega (arith, g.key, g.counter, g.iv))
 
 pub in_of : (kind : ℕ) (s : Line) (rest : List ℕ) → Shaped s → line_in (line_bytes kind s ++ rest) ≡ s
 unfolding line_in line_bytes

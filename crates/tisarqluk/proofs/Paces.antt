@@ -5,7 +5,7 @@ use Prim.Native.Nat.{ℕ, ◌+◌, ◌*◌, ◌≤◌, ◌<◌}
 use native.Mathlib.Omega.{arith}
 use mathlib.Core.Bool.{true}
 use lib.Dec.{eqb, leb}
-use lib.ListN.{length, get_or, drop, length_append}
+use lib.ListN.{length, get_or, drop, length-append}
 use lib.Seq.{drop_at}
 use Rattle.bits.proofs.Lists.{Bytes}
 use Rattle.paced.specs.declared.record.Paced.{Paced}
@@ -24,7 +24,7 @@ pub record ShapedPaced (p : Paced) : Type 0 where
 
 pub length_paced : (p : Paced) → ShapedPaced p → length (paced_bytes p) ≡ 126
 unfolding paced_bytes
-length_paced p g = simp length_append (omega (arith, length_line 80 p.line g.line, g.queue))
+length_paced p g = simp length-append (omega (arith, length_line 80 p.line g.line, g.queue))
 
 -- what follows the line's bytes
 parts : (a b c d : List ℕ) → (a ++ b ++ c) ++ d ≡ a ++ (b ++ (c ++ d))

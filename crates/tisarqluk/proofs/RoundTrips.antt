@@ -5,8 +5,8 @@ use mathlib.Core.List.{List, ◌++◌}
 use Prim.Native.Nat.{ℕ, ◌≤◌}
 use native.Mathlib.Omega.{arith}
 use lib.Dec.{eqb, leb}
-use lib.ListN.{length, get_or, drop, length_append}
-use borrow.Author.Tests.{eqb_true, leb_true, le_leb, eq_eqb}
+use lib.ListN.{length, get_or, drop, length-append}
+use borrow.Author.Tests.{eqb-true, leb-true, le-leb, eq-eqb}
 use Rattle.bits.proofs.Lists.{Bytes}
 use Rattle.line.specs.declared.record.Line.{Line}
 use Rattle.tisarqluk.specs.FreeRecord.{line_bytes, line_in, stored_free, holds_free}
@@ -32,26 +32,26 @@ direction_at kind g r = flag_leb g.receiving
 
 pub free_long : (s : List ℕ) → holds_free s ≡ true → 58 ≤ length s
 unfolding holds_free
-free_long s h = leb_true 58 (length s) (both (leb 58 (length s)) (eqb (get_or s 0 0) 70 && leb (get_or s 3 0) 1) h).0
+free_long s h = leb-true 58 (length s) (both (leb 58 (length s)) (eqb (get_or s 0 0) 70 && leb (get_or s 3 0) 1) h).0
 
 pub free_loaded_stored : (g : Line) (s : List ℕ) → Shaped g → (holds_free (stored_free g s) ≡ true) × (line_in (stored_free g s) ≡ g)
 unfolding holds_free
 free_loaded_stored g s h =
-    let long : 58 ≤ length (stored_free g s) = omega (arith, length_append (line_bytes 70 g) (drop 58 s), length_line 70 g h) in
-    (rw (le_leb 58 (length (stored_free g s)) long, eq_eqb (get_or (stored_free g s) 0 0) 70 (kind_at 70 g (drop 58 s)), direction_at 70 g (drop 58 s)), in_of 70 g (drop 58 s) h)
+    let long : 58 ≤ length (stored_free g s) = omega (arith, length-append (line_bytes 70 g) (drop 58 s), length_line 70 g h) in
+    (rw (le-leb 58 (length (stored_free g s)) long, eq-eqb (get_or (stored_free g s) 0 0) 70 (kind_at 70 g (drop 58 s)), direction_at 70 g (drop 58 s)), in_of 70 g (drop 58 s) h)
 
 pub free_stored_loaded : (s : List ℕ) → Bytes s → holds_free s ≡ true → stored_free (line_in s) s ≡ s
 unfolding holds_free
 free_stored_loaded s b h =
     let e = both (leb 58 (length s)) (eqb (get_or s 0 0) 70 && leb (get_or s 3 0) 1) h in
     let f = both (eqb (get_or s 0 0) 70) (leb (get_or s 3 0) 1) e.1 in
-    of_in 70 s (leb_true 58 (length s) e.0) (eqb_true (get_or s 0 0) 70 f.0) (leb_true (get_or s 3 0) 1 f.1) b
+    of_in 70 s (leb-true 58 (length s) e.0) (eqb-true (get_or s 0 0) 70 f.0) (leb-true (get_or s 3 0) 1 f.1) b
 
 -- ---- a paced line's record
 
 pub paced_long : (s : List ℕ) → holds_paced s ≡ true → 126 ≤ length s
 unfolding holds_paced
-paced_long s h = leb_true 126 (length s) (both (leb 126 (length s)) ((eqb (get_or s 0 0) 80 && leb (get_or s 3 0) 1) && leb (get_or s 59 0) 1) h).0
+paced_long s h = leb-true 126 (length s) (both (leb 126 (length s)) ((eqb (get_or s 0 0) 80 && leb (get_or s 3 0) 1) && leb (get_or s 59 0) 1) h).0
 
 kind_of : (p : Paced) (s : List ℕ) → get_or (stored_paced p s) 0 0 ≡ 80
 unfolding paced_bytes line_bytes
@@ -65,8 +65,8 @@ pub paced_loaded_stored : (p : Paced) (s : List ℕ) → ShapedPaced p → (hold
 unfolding holds_paced
 paced_loaded_stored p s g =
     let all : List ℕ = stored_paced p s in
-    let long : 126 ≤ length all = omega (arith, length_append (paced_bytes p) (drop 126 s), length_paced p g) in
-    (rw (le_leb 126 (length all) long, eq_eqb (get_or all 0 0) 80 (kind_of p s), direction_is_flag p s, closed_at p (drop 126 s) g), paced_in_of p (drop 126 s) g)
+    let long : 126 ≤ length all = omega (arith, length-append (paced_bytes p) (drop 126 s), length_paced p g) in
+    (rw (le-leb 126 (length all) long, eq-eqb (get_or all 0 0) 80 (kind_of p s), direction_is_flag p s, closed_at p (drop 126 s) g), paced_in_of p (drop 126 s) g)
 
 pub paced_stored_loaded : (s : List ℕ) → Bytes s → holds_paced s ≡ true → stored_paced (paced_in s) s ≡ s
 unfolding holds_paced
@@ -74,4 +74,4 @@ paced_stored_loaded s b h =
     let e = both (leb 126 (length s)) ((eqb (get_or s 0 0) 80 && leb (get_or s 3 0) 1) && leb (get_or s 59 0) 1) h in
     let f = both (eqb (get_or s 0 0) 80 && leb (get_or s 3 0) 1) (leb (get_or s 59 0) 1) e.1 in
     let k = both (eqb (get_or s 0 0) 80) (leb (get_or s 3 0) 1) f.0 in
-    paced_of_in s (leb_true 126 (length s) e.0) (eqb_true (get_or s 0 0) 80 k.0) (leb_true (get_or s 3 0) 1 k.1) (leb_true (get_or s 59 0) 1 f.1) b
+    paced_of_in s (leb-true 126 (length s) e.0) (eqb-true (get_or s 0 0) 80 k.0) (leb-true (get_or s 3 0) 1 k.1) (leb-true (get_or s 59 0) 1 f.1) b

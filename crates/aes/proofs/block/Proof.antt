@@ -7,7 +7,7 @@ use native.Mathlib.Decide.{dec_lt, ℕ_discrete}
 use native.Mathlib.Omega.{arith}
 use lib.ListN.{length, take, drop}
 use lib.Seq.{take_all}
-use borrow.Author.Tests.{eq_eqb, ne_eqb, lt_ltb, le_ltb}
+use borrow.Author.Tests.{eq-eqb, ne_eqb, lt-ltb, le-ltb}
 use Rattle.refusal.specs.declared.Refusal.{Refusal}
 use Rattle.refusal.specs.declared.Answer.{Answer}
 use Rattle.refusal.specs.Numbers.{outcome}
@@ -30,10 +30,10 @@ by_answer P k i o refused done =
     elim (ℕ_discrete k 16) [
       | no n ↦ rw (ne_eqb k 16 n) (refused _)
       | yes e ↦ elim (dec_lt i 16) [
-        | yes l ↦ rw (eq_eqb k 16 e, lt_ltb i 16 l) (refused _)
+        | yes l ↦ rw (eq-eqb k 16 e, lt-ltb i 16 l) (refused _)
         | no l ↦ elim (dec_lt o 16) [
-          | yes m ↦ rw (eq_eqb k 16 e, le_ltb i 16 (omega arith), lt_ltb o 16 m) (refused _)
-          | no m ↦ rw (eq_eqb k 16 e, le_ltb i 16 (omega arith), le_ltb o 16 (omega arith)) (done e (omega arith) (omega arith))
+          | yes m ↦ rw (eq-eqb k 16 e, le-ltb i 16 (omega arith), lt-ltb o 16 m) (refused _)
+          | no m ↦ rw (eq-eqb k 16 e, le-ltb i 16 (omega arith), le-ltb o 16 (omega arith)) (done e (omega arith) (omega arith))
         ]
       ]
     ]

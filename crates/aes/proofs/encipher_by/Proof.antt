@@ -39,7 +39,7 @@ returns c =
     let a = l.before.before.before.before.args in
     let i : l.loop.i ≡ 9 = omega arith in
     ciphered a.ks.now _ _ _ _ _ _ _ _ _ l.before.before.state.ensures l.before.add_round_key.ensures i l.loop.invariant.1
-    c.before.before.before.sub_bytes.ensures c.before.before.shift_rows.ensures c.before.add_round_key2.ensures c.Block-of.ensures
+    c.before.before.before.sub_bytes.ensures c.before.before.shift_rows.ensures c.before.add-round-key2.ensures c.Block-of.ensures
 
 pub encipher_by_spec : {M : Type 1} → statement M
 encipher_by_spec =

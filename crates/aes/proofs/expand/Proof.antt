@@ -4,8 +4,8 @@ use Prim.Native.Nat.{◌+◌, ◌-◌, ◌≤◌}
 use mathlib.Core.Path.{◌≡◌, refl, ◌∙◌}
 use mathlib.Core.List.{◌++◌}
 use native.Mathlib.Omega.{arith}
-use native.Mathlib.Numerals.{add_one}
-use lib.ListN.{length, take, drop, length_set}
+use native.Mathlib.Numerals.{add-one}
+use lib.ListN.{length, take, drop, length-set}
 use Rattle.aes.specs.KeyExpansion.{round_key, rcon}
 use Rattle.aes.proofs.SBoxTable.{s_box_at}
 use Rattle.aes.proofs.Schedule.{laid, laid_first, laid_more, laid_all, next_key_is}
@@ -33,10 +33,10 @@ loop_again c =
     let l = c.before.before.before.before.before.loop in
     let k = next_key_is _ _ _ _ _ l.invariant.2 l.invariant.3 c.before.before.next_key.ensures in (
       omega arith,
-      simp length_set l.invariant.1,
+      simp length-set l.invariant.1,
       k,
-      c.xtime.ensures ∙ rw (l.invariant.3, add_one),
-      laid_more _ l.ks _ _ _ _ c.before.before.before.before.loop_test.true refl l.invariant.4 k c.before.transpose2.ensures,
+      c.xtime.ensures ∙ rw (l.invariant.3, add-one),
+      laid_more _ l.ks _ _ _ _ c.before.before.before.before.loop-test.true refl l.invariant.4 k c.before.transpose2.ensures,
     )
 
 returns : tie.Need-returns invariant_loop decreases_loop

@@ -13,14 +13,14 @@ use Rattle.bits.proofs.clear.Tie as tie
 returns : tie.Need-returns
 returns c =
     let s = c.before.before.before.before.before in
-    clear_byte s.args.d.now s.args.j s.args.e c.before.octet.result c.octet2.result (λ i. omega (arith, c.before.before.before.before.slice_known.given i))
+    clear_byte s.args.d.now s.args.j s.args.e c.before.octet.result c.octet2.result (λ i. omega (arith, c.before.before.before.before.slice-known.given i))
     (omega arith) (omega arith) (omega arith) c.before.octet.ensures c.octet2.ensures
 
 returns_2 : tie.Need-returns-2
 returns_2 c =
     let s = c.before.before in
     let e : 8 * s.args.j + s.args.e ≡ 8 * s.args.j = omega arith in
-    sym (ap (λ (i : ℕ). laid s.args.d.now i []) e ∙ laid_none s.args.d.now s.args.j (λ i. omega (arith, c.before.slice_known.given i)) (omega arith))
+    sym (ap (λ (i : ℕ). laid s.args.d.now i []) e ∙ laid_none s.args.d.now s.args.j (λ i. omega (arith, c.before.slice-known.given i)) (omega arith))
 
 pub clear_spec : {M : Type 1} → statement M
 clear_spec =

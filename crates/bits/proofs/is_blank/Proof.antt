@@ -36,19 +36,19 @@ returns_2 : tie.Need-returns-2 invariant_loop decreases_loop
 returns_2 c =
     let a = c.before.before.before.before.before.before.before.args in
     let l = c.before.before.before.loop in
-    next_not a.s.now l.i c.before.before.loop_test.true (omega (arith, c.before.shared_slice_known2.given l.i)) c.if2.true ∙ l.invariant
+    next_not a.s.now l.i c.before.before.loop-test.true (omega (arith, c.before.shared-slice-known2.given l.i)) c.if2.true ∙ l.invariant
 
 loop_again : tie.Need-loop-preserved invariant_loop decreases_loop
 loop_again c =
     let a = c.before.before.before.before.before.before.before.args in
     let l = c.before.before.before.loop in
-    next_blank a.s.now l.i c.before.before.loop_test.true c.if2.false ∙ l.invariant
+    next_blank a.s.now l.i c.before.before.loop-test.true c.if2.false ∙ l.invariant
 
 returns_3 : tie.Need-returns-3 invariant_loop decreases_loop
-returns_3 c = end_blank c.before.before.before.before.before.args.s.now c.before.loop.i c.loop_test.false ∙ c.before.loop.invariant
+returns_3 c = end_blank c.before.before.before.before.before.args.s.now c.before.loop.i c.loop-test.false ∙ c.before.loop.invariant
 
 pub is_blank_spec : {M : Type 1} → statement M
 is_blank_spec =
     tie.close
     (tie.spec invariant_loop decreases_loop (λ c. omega arith) (λ c κs. search rules) (λ c. search rules) returns (λ c. omega arith) loop_holds (λ c. search rules) returns_2
-    (λ c. omega arith) (λ c. omega (arith, c.before.before.loop_test.true)) loop_again returns_3)
+    (λ c. omega arith) (λ c. omega (arith, c.before.before.loop-test.true)) loop_again returns_3)

@@ -3,7 +3,7 @@
 use mathlib.Core.Path.{◌≡◌, refl, sym, ◌∙◌}
 use Prim.Native.Nat.{◌+◌, ◌-◌, ◌≤◌}
 use native.Mathlib.Omega.{arith}
-use lib.ListN.{length, drop, length_set}
+use lib.ListN.{length, drop, length-set}
 use borrow.Author.Rules.{rules}
 use Rattle.bits.proofs.Octets.{coming, filled, fill_octet, fill_done}
 use Rattle.bits.proofs.pour.Statement.{statement}
@@ -24,10 +24,10 @@ loop_again : tie.Need-loop-preserved invariant_loop decreases_loop
 loop_again c =
     let l = c.before.before.before.loop in
     let s = c.before.before.before.before.before.before in (
-      fill_octet l.d s.args.s.now l.i s.args.last l.k s.args.q l.top c.before.byte.result c.octet.result c.before.before.loop_test.true (omega arith) s.requires.2
-          (λ i. omega (arith, c.before.before.before.before.shared_slice_known.given i)) c.before.byte.ensures c.octet.ensures
+      fill_octet l.d s.args.s.now l.i s.args.last l.k s.args.q l.top c.before.byte.result c.octet.result c.before.before.loop-test.true (omega arith) s.requires.2
+          (λ i. omega (arith, c.before.before.before.before.shared-slice-known.given i)) c.before.byte.ensures c.octet.ensures
           ∙ l.invariant.0,
-      length_set l.d l.i c.octet.result ∙ l.invariant.1,
+      length-set l.d l.i c.octet.result ∙ l.invariant.1,
       omega arith,
       omega arith,
       omega arith,

@@ -16,7 +16,7 @@ returns c =
     let y = o.before in
     let s = y.before.before.before.before.before in
     write_is s.args.d.now s.args.at s.args.t3 s.args.n (s.args.at / 8 + (s.args.at % 8 + s.args.n + 7) / 8) y.byte.result o.octet.result p.pour.new.0 c.before.before.clear.new.0
-    (λ i. omega (arith, y.before.before.before.before.slice_known.given i))
+    (λ i. omega (arith, y.before.before.before.before.slice-known.given i))
     (array_length 16 s.args.t3 _ s.well_formed.1.1.0)
     y.before.before.before.if1.true
     refl y.before.before.if2.true

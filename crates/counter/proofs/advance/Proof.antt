@@ -18,7 +18,7 @@ use contract.Running.{tables, tables_of}
 use types.Kit.{‵, raw, ◌⊛◌, some, later, ◌$◌, ◌∵◌, !, qed, by, move, keep, drop, use1, split, join, pick, fsplit, fsplit3, fjoin, fjoin3, feq_i, suffices, frame, await, done}
 use types.Run.{look, look_raw, init, store_raw, forget, stop, hop, from, load, unit_lit, and_then, no_more, land, of_opd, assigns, returns, enter, alloc1, alloc0, params1, pass1, pass0, free1, free0}
 use types.SemTy.{Body}
-use sound.WpLaws.{FmC, fm_of, WpFnMono}
+use sound.WpLaws.{FmC, fm_of, WpFn-mono}
 use denote.RattleType.{owns}
 use denote.Laws.{Is, shows}
 use denote.Memory.{mem}
@@ -40,9 +40,9 @@ use Rattle.counter.specs.contracts.Position as T
 use Rattle.counter.proofs.Position.TheLaws as T'
 use Rattle.counter.proofs.Machine.{machine, typed}
 use Rattle.counter.specs.contracts.onward as onward
-use Rattle.counter.proofs.onward.Symbol as onward_def
+use Rattle.counter.proofs.onward.Symbol as onward-def
 use Rattle.counter.proofs.onward.Symbol.{name as #counter·onward}
-use Rattle.counter.proofs.onward.Met as onward_thm
+use Rattle.counter.proofs.onward.Met as onward-thm
 use Rattle.counter.specs.contracts.advance.Key.{name as #counter·advance}
 use Rattle.counter.specs.contracts.advance as advance
 use Rattle.counter.proofs.advance.Statement as stated
@@ -131,7 +131,7 @@ module _ {M : Type 1} {𝓤 : Ura M} (𝓛 : Logic 𝓤) (at_mem : Memory → SP
 advance_meets : {M : Type 1} {𝓤 : Ura M} (𝓛 : Logic 𝓤) (mem : Memory → SProp 𝓤) (run : Routine → Fun 𝓤) (𝓣 : Tables 𝓤 𝓛.H)
     → Triple 𝓤 (𝓣.C #counter·onward) (Onward 𝓛 mem run)
     → Meets 𝓛 advance.signature (WpFn 𝓤 𝓛.H 𝓣.C 𝓣.Λ code.function) (advance.spec 𝓛 mem run)
-advance_meets {𝓤 = 𝓤} 𝓛 mem run 𝓣 known = walk_Meets 𝓛 advance.ended stayed (goes 𝓛 mem run) (advance.clauses 𝓛 mem run) (WpFn 𝓤 𝓛.H 𝓣.C 𝓣.Λ code.function) (WpFnMono 𝓤 𝓛.H 𝓛.laws 𝓣 code.function)
+advance_meets {𝓤 = 𝓤} 𝓛 mem run 𝓣 known = walk_Meets 𝓛 advance.ended stayed (goes 𝓛 mem run) (advance.clauses 𝓛 mem run) (WpFn 𝓤 𝓛.H 𝓣.C 𝓣.Λ code.function) (WpFn-mono 𝓤 𝓛.H 𝓛.laws 𝓣 code.function)
     (advance_walks 𝓛 mem run 𝓣.C 𝓣.Λ (fm_of 𝓤 𝓛.H 𝓛.laws 𝓣) known)
 
 pub advance_spec : {M : Type 1} → stated.statement M
@@ -140,4 +140,4 @@ advance_spec 𝓤 𝓛 𝓜 𝓡 =
     entered 𝓤 𝓛.H (triple_of 𝓛 advance.signature (advance.spec 𝓛 𝓜.mem 𝓡.run))
     (tables 𝓤 𝓛.H 𝓜 𝓡 code.env).C (tables 𝓤 𝓛.H 𝓜 𝓡 code.env).Λ #counter·advance code.function (code.unfolded 𝓤 𝓛.H 𝓜 𝓡)
     (advance_meets 𝓛 𝓜.mem 𝓡.run (tables_of 𝓤 𝓛.H 𝓜 (tables 𝓤 𝓛.H 𝓜 𝓡 code.env))
-    (cited 𝓤 𝓛.H (Onward 𝓛 𝓜.mem 𝓡.run) 𝓜 𝓡 code.env #counter·onward onward_def.routine code.calls_counter::onward (onward_thm.met 𝓤 𝓛 𝓜 𝓡)))
+    (cited 𝓤 𝓛.H (Onward 𝓛 𝓜.mem 𝓡.run) 𝓜 𝓡 code.env #counter·onward onward-def.routine code.calls-counter::onward (onward-thm.met 𝓤 𝓛 𝓜 𝓡)))

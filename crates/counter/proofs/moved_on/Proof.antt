@@ -20,7 +20,7 @@ use types.Kit.{‵, raw, ◌⊛◌, some, later, ◌$◌, ◌∵◌, !, qed, by,
 use types.Run.{look, init, forget, stop, from, load, addr, and_then, no_more, land, of_opd, assigns, returns, enter, alloc1, alloc0, params1, pass1, pass0, free1, free0}
 use types.Tokens.{lft_new, lft_end}
 use types.SemTy.{Body}
-use sound.WpLaws.{FmC, fm_of, WpFnMono}
+use sound.WpLaws.{FmC, fm_of, WpFn-mono}
 use denote.RattleType.{owns}
 use denote.Laws.{Is, shows}
 use denote.Memory.{mem, cell_at, part_at, part_of}
@@ -44,9 +44,9 @@ use Rattle.counter.specs.contracts.Position as T
 use Rattle.counter.proofs.Position.TheLaws as T'
 use Rattle.counter.proofs.Machine.{machine, typed}
 use Rattle.counter.specs.contracts.advance as advance
-use Rattle.counter.proofs.advance.Symbol as advance_def
+use Rattle.counter.proofs.advance.Symbol as advance-def
 use Rattle.counter.proofs.advance.Symbol.{name as #counter·advance}
-use Rattle.counter.proofs.advance.Met as advance_thm
+use Rattle.counter.proofs.advance.Met as advance-thm
 use Rattle.counter.specs.contracts.moved_on.Key.{name as #counter·moved_on}
 use Rattle.counter.specs.contracts.moved_on as moved_on
 use Rattle.counter.proofs.moved_on.Statement as stated
@@ -146,7 +146,7 @@ module _ {M : Type 1} {𝓤 : Ura M} (𝓛 : Logic 𝓤) (at_mem : Memory → SP
 moved_on_meets : {M : Type 1} {𝓤 : Ura M} (𝓛 : Logic 𝓤) (mem : Memory → SProp 𝓤) (run : Routine → Fun 𝓤) (𝓣 : Tables 𝓤 𝓛.H)
     → Triple 𝓤 (𝓣.C #counter·advance) (Advance 𝓛 mem run)
     → Meets 𝓛 moved_on.signature (WpFn 𝓤 𝓛.H 𝓣.C 𝓣.Λ code.function) (moved_on.spec 𝓛 mem run)
-moved_on_meets {𝓤 = 𝓤} 𝓛 mem run 𝓣 known = walk_Meets 𝓛 moved_on.ended stayed (Goes-none 𝓛 0 (λ _. T.the_row) yes (λ κs x f. refl), tt) (moved_on.clauses 𝓛 mem run) (WpFn 𝓤 𝓛.H 𝓣.C 𝓣.Λ code.function) (WpFnMono 𝓤 𝓛.H 𝓛.laws 𝓣 code.function)
+moved_on_meets {𝓤 = 𝓤} 𝓛 mem run 𝓣 known = walk_Meets 𝓛 moved_on.ended stayed (Goes-none 𝓛 0 (λ _. T.the_row) yes (λ κs x f. refl), tt) (moved_on.clauses 𝓛 mem run) (WpFn 𝓤 𝓛.H 𝓣.C 𝓣.Λ code.function) (WpFn-mono 𝓤 𝓛.H 𝓛.laws 𝓣 code.function)
     (moved_on_walks 𝓛 mem run 𝓣.C 𝓣.Λ (fm_of 𝓤 𝓛.H 𝓛.laws 𝓣) known)
 
 pub moved_on_spec : {M : Type 1} → stated.statement M
@@ -155,4 +155,4 @@ moved_on_spec 𝓤 𝓛 𝓜 𝓡 =
     entered 𝓤 𝓛.H (triple_of 𝓛 moved_on.signature (moved_on.spec 𝓛 𝓜.mem 𝓡.run))
     (tables 𝓤 𝓛.H 𝓜 𝓡 code.env).C (tables 𝓤 𝓛.H 𝓜 𝓡 code.env).Λ #counter·moved_on code.function (code.unfolded 𝓤 𝓛.H 𝓜 𝓡)
     (moved_on_meets 𝓛 𝓜.mem 𝓡.run (tables_of 𝓤 𝓛.H 𝓜 (tables 𝓤 𝓛.H 𝓜 𝓡 code.env))
-    (cited 𝓤 𝓛.H (Advance 𝓛 𝓜.mem 𝓡.run) 𝓜 𝓡 code.env #counter·advance advance_def.routine code.calls_counter::advance (advance_thm.met 𝓤 𝓛 𝓜 𝓡)))
+    (cited 𝓤 𝓛.H (Advance 𝓛 𝓜.mem 𝓡.run) 𝓜 𝓡 code.env #counter·advance advance-def.routine code.calls-counter::advance (advance-thm.met 𝓤 𝓛 𝓜 𝓡)))

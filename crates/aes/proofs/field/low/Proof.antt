@@ -1,12 +1,12 @@
 -- `aes::field::low` meets its contract. Assumes nothing.
-use borrow.Author.Tests.{eq_eqb, ne_eqb}
+use borrow.Author.Tests.{eq-eqb, ne_eqb}
 use Rattle.aes.specs.Field.{low}
 use Rattle.aes.proofs.field.low.Statement.{statement}
 use Rattle.aes.proofs.field.low.Tie as tie
 
 returns : tie.Need-returns
 unfolding low
-returns c = simp (eq_eqb _ _ c.if1.true)
+returns c = simp (eq-eqb _ _ c.if1.true)
 
 returns_2 : tie.Need-returns-2
 unfolding low

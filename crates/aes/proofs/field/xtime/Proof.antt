@@ -4,7 +4,7 @@ use Prim.Native.Nat.{ℕ, ◌*◌, ◌/◌, ◌%◌, ◌<◌, ◌≤◌}
 use native.Mathlib.Decide.{dec_lt}
 use native.Mathlib.Omega.{arith}
 use borrow.Author.Rules.{rules}
-use borrow.Author.Tests.{lt_ltb, le_ltb}
+use borrow.Author.Tests.{lt-ltb, le-ltb}
 use lib.Bits.{bit_xor, xor_zero_r}
 use Rattle.aes.specs.Field.{xtime}
 use Rattle.aes.proofs.field.xtime.Statement.{statement}
@@ -17,11 +17,11 @@ picked b h =
     elim (dec_lt b 128) [
       | yes l ↦
           let z : b / 128 * 27 ≡ 0 = omega arith in
-          rw (z, lt_ltb b 128 l) (xor_zero_r (b * 2 % 256))
+          rw (z, lt-ltb b 128 l) (xor_zero_r (b * 2 % 256))
       | no l ↦
           let z : b / 128 * 27 ≡ 27 = omega arith in
           let m : 128 ≤ b = omega arith in
-          rw (z, le_ltb b 128 m)
+          rw (z, le-ltb b 128 m)
     ]
 
 returns : tie.Need-returns

@@ -18,7 +18,7 @@ made w rc r s temp w4 w5 w6 w7 er es et e4 e5 e6 e7 = rw (e7, e6, e5, e4, et, es
 returns : tie.Need-returns
 returns c =
     made _ _ _ _ _ _ _ _ _ c.before.before.before.before.before.before.before.before.before.before.rot_word.ensures c.before.before.before.before.before.before.before.before.before.sub_word.ensures c.before.before.before.before.before.before.before.before.xor_word.ensures
-    c.before.before.before.before.before.before.xor_word2.ensures c.before.before.before.before.xor_word3.ensures c.before.before.xor_word4.ensures c.xor_word5.ensures
+    c.before.before.before.before.before.before.xor-word2.ensures c.before.before.before.before.xor-word3.ensures c.before.before.xor-word4.ensures c.xor-word5.ensures
 
 pub next_key_spec : {M : Type 1} → statement M
 next_key_spec =

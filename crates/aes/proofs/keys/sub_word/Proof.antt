@@ -7,7 +7,7 @@ use Rattle.aes.proofs.keys.sub_word.Tie as tie
 
 returns : tie.Need-returns
 unfolding sub_word
-returns c = four_equal c.before.before.before.s_box.ensures c.before.before.s_box2.ensures c.before.s_box3.ensures c.s_box4.ensures
+returns c = four_equal c.before.before.before.s_box.ensures c.before.before.s-box2.ensures c.before.s-box3.ensures c.s-box4.ensures
 
 pub sub_word_spec : {M : Type 1} → statement M
 sub_word_spec =

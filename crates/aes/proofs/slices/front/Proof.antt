@@ -2,9 +2,9 @@
 use Prim.Native.Nat.{ℕ, ◌+◌, ◌-◌, ◌<◌, ◌≤◌}
 use mathlib.Core.Path.{◌≡◌, refl, ap, sym, ◌∙◌}
 use mathlib.Core.List.{◌++◌, List}
-use native.Mathlib.Nat.{zero_add}
+use native.Mathlib.Nat.{zero-add}
 use native.Mathlib.Omega.{arith}
-use lib.ListN.{length, get_or, set, take, drop, replicate, length_set}
+use lib.ListN.{length, get_or, set, take, drop, replicate, length-set}
 use Rattle.aes.specs.Inner.{front_of}
 use Rattle.aes.proofs.Lists.{many_at, front_more}
 use borrow.Author.Rules.{rules}
@@ -21,7 +21,7 @@ decreases_loop s b₀ i₀ b i = 16 - i
 more : (s b : List ℕ) (x i : ℕ) → i < 16 → b ≡ take i (front_of s) ++ drop i (replicate 16 0) → x ≡ get_or s i 0
     → set b i x ≡ take (i + 1) (front_of s) ++ drop (i + 1) (replicate 16 0)
 more s b x i h e ex =
-    ap (set b i) (ex ∙ ap (λ (k : ℕ). get_or s k 0) (sym (zero_add i)) ∙ sym (many_at (λ (k : ℕ). get_or s k 0) 0 0 16 i h))
+    ap (set b i) (ex ∙ ap (λ (k : ℕ). get_or s k 0) (sym (zero-add i)) ∙ sym (many_at (λ (k : ℕ). get_or s k 0) 0 0 16 i h))
     ∙ front_more (replicate 16 0) (front_of s) b i 0 h h e
 
 -- all sixteen
@@ -34,7 +34,7 @@ loop_holds c = (search rules, refl, refl)
 loop_again : tie.Need-loop-preserved invariant_loop decreases_loop
 loop_again c =
     let l = c.before.before.loop in
-    (omega arith, simp length_set l.invariant.1, more c.before.before.before.before.args.s.now _ _ _ c.before.loop_test.true l.invariant.2 c.at.ensures)
+    (omega arith, simp length-set l.invariant.1, more c.before.before.before.before.args.s.now _ _ _ c.before.loop-test.true l.invariant.2 c.at.ensures)
 
 returns : tie.Need-returns invariant_loop decreases_loop
 returns c =

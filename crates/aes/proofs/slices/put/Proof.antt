@@ -3,7 +3,7 @@ use Prim.Native.Nat.{◌-◌, ◌≤◌}
 use mathlib.Core.Path.{◌≡◌, refl}
 use mathlib.Core.List.{◌++◌}
 use native.Mathlib.Omega.{arith}
-use lib.ListN.{length, take, drop, length_set}
+use lib.ListN.{length, take, drop, length-set}
 use Rattle.aes.proofs.Lists.{front_more}
 use borrow.Author.Rules.{rules}
 use Rattle.aes.proofs.slices.put.Statement.{statement}
@@ -32,7 +32,7 @@ loop_less c = omega arith
 
 loop_again : tie.Need-loop-preserved invariant_loop decreases_loop
 loop_again c =
-    (omega arith, simp length_set (omega arith), front_more _ _ _ _ _ (omega arith) (omega arith) c.before.loop.invariant.2)
+    (omega arith, simp length-set (omega arith), front_more _ _ _ _ _ (omega arith) (omega arith) c.before.loop.invariant.2)
 
 same_length : tie.Need-same-length invariant_loop decreases_loop
 same_length c = c.before.loop.invariant.1

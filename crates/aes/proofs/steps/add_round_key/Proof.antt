@@ -19,8 +19,8 @@ added s k a b c d ea eb ec ed = rw (ea, eb, ec, ed)
 
 returns : tie.Need-returns
 returns c =
-    added _ _ _ _ _ _ c.before.before.before.before.before.before.before.before.before.xor_word.ensures c.before.before.before.before.before.before.xor_word2.ensures
-    c.before.before.before.xor_word3.ensures c.xor_word4.ensures
+    added _ _ _ _ _ _ c.before.before.before.before.before.before.before.before.before.xor_word.ensures c.before.before.before.before.before.before.xor-word2.ensures
+    c.before.before.before.xor-word3.ensures c.xor-word4.ensures
 
 pub add_round_key_spec : {M : Type 1} → statement M
 add_round_key_spec =

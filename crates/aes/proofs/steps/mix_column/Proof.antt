@@ -7,7 +7,7 @@ use Rattle.aes.proofs.steps.mix_column.Tie as tie
 
 returns : tie.Need-returns
 unfolding row_by mix_column
-returns c = four_equal c.before.before.before.row_by.ensures c.before.before.row_by2.ensures c.before.row_by3.ensures c.row_by4.ensures
+returns c = four_equal c.before.before.before.row_by.ensures c.before.before.row-by2.ensures c.before.row-by3.ensures c.row-by4.ensures
 
 pub mix_column_spec : {M : Type 1} → statement M
 mix_column_spec =

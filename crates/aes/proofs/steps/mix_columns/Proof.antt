@@ -16,8 +16,8 @@ mixed s t r a b c d et ea eb ec ed er = rw (er, ea, eb, ec, ed, et)
 
 returns : tie.Need-returns
 returns c =
-    mixed _ _ _ _ _ _ _ c.before.before.before.before.before.before.before.before.before.transpose.ensures c.before.before.before.before.before.before.before.mix_column.ensures c.before.before.before.before.before.mix_column2.ensures
-    c.before.before.before.mix_column3.ensures c.before.mix_column4.ensures c.transpose2.ensures
+    mixed _ _ _ _ _ _ _ c.before.before.before.before.before.before.before.before.before.transpose.ensures c.before.before.before.before.before.before.before.mix_column.ensures c.before.before.before.before.before.mix-column2.ensures
+    c.before.before.before.mix-column3.ensures c.before.mix-column4.ensures c.transpose2.ensures
 
 pub mix_columns_spec : {M : Type 1} → statement M
 mix_columns_spec =

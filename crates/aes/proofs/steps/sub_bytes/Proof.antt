@@ -9,8 +9,8 @@ use Rattle.aes.proofs.steps.sub_bytes.Tie as tie
 returns : tie.Need-returns
 unfolding sub_word sub_bytes
 returns c =
-    four_equal c.before.before.before.before.before.before.sub_word.ensures c.before.before.before.before.sub_word2.ensures
-    c.before.before.sub_word3.ensures c.sub_word4.ensures
+    four_equal c.before.before.before.before.before.before.sub_word.ensures c.before.before.before.before.sub-word2.ensures
+    c.before.before.sub-word3.ensures c.sub-word4.ensures
 
 pub sub_bytes_spec : {M : Type 1} → statement M
 sub_bytes_spec =

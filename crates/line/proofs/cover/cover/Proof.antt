@@ -15,10 +15,10 @@ use Rattle.line.specs.Inner.{Covers}
 use Rattle.line.proofs.cover.cover.Statement.{statement}
 use Rattle.line.proofs.cover.cover.Tie as tie
 
-module _ (s b : List ℕ) (i p n : ℕ) (in_s : i + n ≤ 8 * length s) (in_b : p + n ≤ 128) (sixteen : length b ≡ 16) (given keys out : List ℕ)
+module _ (s b : List ℕ) (i p n : ℕ) (in-s : i + n ≤ 8 * length s) (in_b : p + n ≤ 128) (sixteen : length b ≡ 16) (given keys out : List ℕ)
     (g : given ≡ pack 16 (part s i n)) (k : keys ≡ pack 16 (part b p n)) (o : bits_of out ≡ plus (bits_of given) (bits_of keys)) where
   given_is : take n (bits_of given) ≡ part s i n
-  given_is = ap (λ (l : List ℕ). take n (bits_of l)) g ∙ pack_part s i n 16 (omega arith) in_s
+  given_is = ap (λ (l : List ℕ). take n (bits_of l)) g ∙ pack_part s i n 16 (omega arith) in-s
 
   out_is : take n (bits_of out) ≡ plus (part s i n) (part b p n)
   out_is =

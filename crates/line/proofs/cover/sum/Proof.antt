@@ -24,5 +24,5 @@ sum_spec =
     tie.close
     (tie.spec
     invariant_loop decreases_loop loop_holds (λ c. search rules) (λ c. search rules) (λ c. search rules) (λ c. search rules) (λ c. omega arith)
-    (λ c. summed_on _ _ _ _ c.before.loop.invariant c.loop_test.true)
-    (λ c. summed _ _ _ _ c.before.loop.invariant c.loop_test.false))
+    (λ c. summed_on _ _ _ _ c.before.loop.invariant c.loop-test.true)
+    (λ c. summed _ _ _ _ c.before.loop.invariant c.loop-test.false))

@@ -6,7 +6,7 @@ use native.Mathlib.Omega.{arith}
 use lib.Dec.{ltb}
 use lib.ListN.{length}
 use borrow.Author.Rules.{rules}
-use borrow.Author.Tests.{lt_ltb, le_ltb}
+use borrow.Author.Tests.{lt-ltb, le-ltb}
 use Rattle.bits.proofs.Arrays.{field_length, field_bytes}
 use Rattle.bits.proofs.Laid.{laid_nothing}
 use Rattle.refusal.specs.declared.Refusal.{Refusal}
@@ -29,7 +29,7 @@ unfolding run_answer
 returns_2 c =
     let a = c.before.before.before.before.before.args in
     let f1 : faulty a.line ≡ false = sym c.before.before.is_faulty.ensures ∙ c.before.if1.false in
-    let f2 : ltb 524288 a.bits ≡ true = lt_ltb _ _ c.if2.true in
+    let f2 : ltb 524288 a.bits ≡ true = lt-ltb _ _ c.if2.true in
     run_refused a.line a.bits a.input.now a.output.now (Refusal.Bits) (simp (f1, f2))
 
 returns_3 : tie.Need-returns-3
@@ -37,8 +37,8 @@ unfolding run_answer
 returns_3 c =
     let a = c.before.before.before.before.before.before.args in
     let f1 : faulty a.line ≡ false = sym c.before.before.before.is_faulty.ensures ∙ c.before.before.if1.false in
-    let f2 : ltb 524288 a.bits ≡ false = le_ltb _ _ c.before.if2.false in
-    let f3 : ltb (length a.input.now) ((a.bits + 7) / 8) ≡ true = lt_ltb _ _ c.if3.true in
+    let f2 : ltb 524288 a.bits ≡ false = le-ltb _ _ c.before.if2.false in
+    let f3 : ltb (length a.input.now) ((a.bits + 7) / 8) ≡ true = lt-ltb _ _ c.if3.true in
     run_refused a.line a.bits a.input.now a.output.now (Refusal.Input) (simp (f1, f2, f3))
 
 returns_4 : tie.Need-returns-4
@@ -46,9 +46,9 @@ unfolding run_answer
 returns_4 c =
     let a = c.before.before.before.before.before.before.before.args in
     let f1 : faulty a.line ≡ false = sym c.before.before.before.before.is_faulty.ensures ∙ c.before.before.before.if1.false in
-    let f2 : ltb 524288 a.bits ≡ false = le_ltb _ _ c.before.before.if2.false in
-    let f3 : ltb (length a.input.now) ((a.bits + 7) / 8) ≡ false = le_ltb _ _ c.before.if3.false in
-    let f4 : ltb (length a.output.now) ((a.bits + 7) / 8) ≡ true = lt_ltb _ _ c.if4.true in
+    let f2 : ltb 524288 a.bits ≡ false = le-ltb _ _ c.before.before.if2.false in
+    let f3 : ltb (length a.input.now) ((a.bits + 7) / 8) ≡ false = le-ltb _ _ c.before.if3.false in
+    let f4 : ltb (length a.output.now) ((a.bits + 7) / 8) ≡ true = lt-ltb _ _ c.if4.true in
     run_refused a.line a.bits a.input.now a.output.now (Refusal.Output) (simp (f1, f2, f3, f4))
 
 whole_requires : tie.Need-whole-requires
@@ -71,9 +71,9 @@ unfolding run_answer
 returns_5 c =
     let a = c.before.before.before.before.before.before.before.before.before.before.before.args in
     let f1 : faulty a.line ≡ false = sym c.before.before.before.before.before.before.before.before.is_faulty.ensures ∙ c.before.before.before.before.before.before.before.if1.false in
-    let f2 : ltb 524288 a.bits ≡ false = le_ltb _ _ c.before.before.before.before.before.before.if2.false in
-    let f3 : ltb (length a.input.now) ((a.bits + 7) / 8) ≡ false = le_ltb _ _ c.before.before.before.before.before.if3.false in
-    let f4 : ltb (length a.output.now) ((a.bits + 7) / 8) ≡ false = le_ltb _ _ c.before.before.before.before.if4.false in
+    let f2 : ltb 524288 a.bits ≡ false = le-ltb _ _ c.before.before.before.before.before.before.if2.false in
+    let f3 : ltb (length a.input.now) ((a.bits + 7) / 8) ≡ false = le-ltb _ _ c.before.before.before.before.before.if3.false in
+    let f4 : ltb (length a.output.now) ((a.bits + 7) / 8) ≡ false = le-ltb _ _ c.before.before.before.before.if4.false in
     run_done a.line a.bits a.input.now a.output.now _ _ (simp (f1, f2, f3, f4)) c.before.before.whole.ensures
 
 pub run_spec : {M : Type 1} → statement M

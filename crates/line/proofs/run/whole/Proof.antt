@@ -27,7 +27,7 @@ piece_requires c κs =
 ahead_here : (c : tie.After-slice-known2 invariant_loop decreases_loop) → c.before.before.before.before.before.before.loop.at + c.before.before.before.before.least.result ≤ c.before.before.before.before.before.before.before.before.before.before.before.before.before.args.n
 ahead_here c =
     let k_is : c.before.before.before.before.least.result ≡ min (c.before.before.before.before.before.before.before.before.before.before.before.before.before.args.n - c.before.before.before.before.before.before.loop.at) 4096 = c.before.before.before.before.least.ensures in
-    omega (arith, k_is, c.before.before.before.before.before.loop_test.true)
+    omega (arith, k_is, c.before.before.before.before.before.loop-test.true)
 
 add_at : tie.Need-overflow-add-at invariant_loop decreases_loop
 add_at c = omega (arith, ahead_here c, c.before.before.before.before.before.before.before.before.before.before.before.before.before.requires.1.few)
@@ -35,7 +35,7 @@ add_at c = omega (arith, ahead_here c, c.before.before.before.before.before.befo
 loop_less : tie.Need-loop-smaller invariant_loop decreases_loop
 loop_less c =
     let k_is : c.before.before.before.before.least.result ≡ min (c.before.before.before.before.before.before.before.before.before.before.before.before.before.args.n - c.before.before.before.before.before.before.loop.at) 4096 = c.before.before.before.before.least.ensures in
-    omega (arith, k_is, c.before.before.before.before.before.loop_test.true)
+    omega (arith, k_is, c.before.before.before.before.before.loop-test.true)
 
 loop_again : tie.Need-loop-preserved invariant_loop decreases_loop
 loop_again c =
@@ -44,7 +44,7 @@ loop_again c =
 
 returns : tie.Need-returns invariant_loop decreases_loop
 returns c =
-    let r = stop _ _ _ _ _ _ _ _ _ c.before.before.loop.invariant c.before.loop_test.false in
+    let r = stop _ _ _ _ _ _ _ _ _ c.before.before.loop.invariant c.before.loop-test.false in
     record { line = r.line; out = r.out }
 
 pub whole_spec : {M : Type 1} → statement M

@@ -25,35 +25,35 @@ mul_x : tie.Need-overflow-mul-x invariant_loop decreases_loop
 mul_x c =
     let l = c.before.loop in
     let b : l.w * 2 + get_or (bits_of c.before.before.args.t1) l.i 0 < 256 =
-    low _ _ _ _ _ l.w l.c l.i _ l.invariant c.loop_test.true refl in
+    low _ _ _ _ _ l.w l.c l.i _ l.invariant c.loop-test.true refl in
     omega (arith, b)
 
 add_x : tie.Need-overflow-add-x invariant_loop decreases_loop
 add_x c =
     let l = c.before.before.before.loop in
     let b : l.w * 2 + c.get.result < 256 =
-    low _ _ _ _ _ l.w l.c l.i c.get.result l.invariant c.before.before.loop_test.true c.get.ensures in
+    low _ _ _ _ _ l.w l.c l.i c.get.result l.invariant c.before.before.loop-test.true c.get.ensures in
     omega (arith, b)
 
 loop_again : tie.Need-loop-preserved invariant_loop decreases_loop
 loop_again c =
     let l = c.before.before.before.before.loop in
-    turn_few _ _ _ _ _ l.w l.c l.i c.before.get.result l.invariant c.before.before.before.loop_test.true c.before.get.ensures c.if1.true
+    turn_few _ _ _ _ _ l.w l.c l.i c.before.get.result l.invariant c.before.before.before.loop-test.true c.before.get.ensures c.if1.true
 
 returns : tie.Need-returns invariant_loop decreases_loop
 returns c =
     let l = c.before.before.before.before.before.loop in
-    turn_hit _ _ _ _ _ l.w l.c l.i c.before.before.get.result l.invariant c.before.before.before.before.loop_test.true c.before.before.get.ensures
+    turn_hit _ _ _ _ _ l.w l.c l.i c.before.before.get.result l.invariant c.before.before.before.before.loop-test.true c.before.before.get.ensures
     c.before.if1.false c.if2.true
 
 loop_again_2 : tie.Need-loop-preserved-2 invariant_loop decreases_loop
 loop_again_2 c =
     let l = c.before.before.before.before.before.loop in
-    turn_miss _ _ _ _ _ l.w l.c l.i c.before.before.get.result l.invariant c.before.before.before.before.loop_test.true c.before.before.get.ensures
+    turn_miss _ _ _ _ _ l.w l.c l.i c.before.before.get.result l.invariant c.before.before.before.before.loop-test.true c.before.before.get.ensures
     c.before.if1.false c.if2.false
 
 returns_2 : tie.Need-returns-2 invariant_loop decreases_loop
-returns_2 c = let l = c.before.loop in searched _ _ _ _ _ l.w l.c l.i l.invariant c.loop_test.false
+returns_2 c = let l = c.before.loop in searched _ _ _ _ _ l.w l.c l.i l.invariant c.loop-test.false
 
 pub search_spec : {M : Type 1} → statement M
 search_spec =

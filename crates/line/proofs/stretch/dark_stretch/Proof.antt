@@ -3,7 +3,7 @@ use mathlib.Core.Path.{◌≡◌, sym, ap, ◌∙◌}
 use Prim.Native.Nat.{ℕ, ◌-◌, ◌*◌, ◌<◌, min}
 use native.Mathlib.Omega.{arith}
 use borrow.Author.Rules.{rules}
-use borrow.Author.Tests.{lt_ltb}
+use borrow.Author.Tests.{lt-ltb}
 use Rattle.aes.specs.Cipher.{aes128}
 use Rattle.line.specs.Tests.{due_in}
 use Rattle.line.proofs.Steady.{darkened_block, dark_stretched}
@@ -18,7 +18,7 @@ darkened_by_requires c κs =
     let room = s.requires.1.0 in
     let place : a.g.line.position.place < 128 = s.requires.0.good.place_in in
     let m_is : m.result ≡ min (min a.n (128 - a.g.line.position.place)) a.g.line.left = m.ensures ∙ ap (λ (k : ℕ). min k a.g.line.left) c.before.before.before.before.before.before.before.before.before.least.ensures in
-    let due : due_in a.g.line ≡ min 128 (128 * a.g.line.l - a.g.line.left) = rw (lt_ltb 0 a.g.line.left s.requires.1.1.1) in
+    let due : due_in a.g.line ≡ min 128 (128 * a.g.line.l - a.g.line.left) = rw (lt-ltb 0 a.g.line.left s.requires.1.1.1) in
     (omega (arith, m_is, s.requires.1.1.0, s.requires.1.1.1, place), omega (arith, m_is), omega (arith, m_is, place), omega (arith, due, s.requires.0.good.collected_is))
 
 settle_requires : tie.Need-settle-requires

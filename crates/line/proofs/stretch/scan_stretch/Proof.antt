@@ -3,7 +3,7 @@ use mathlib.Core.Path.{◌≡◌, sym, ◌∙◌}
 use Prim.Native.Nat.{◌-◌, ◌<◌, ◌≤◌, min}
 use native.Mathlib.Omega.{arith}
 use borrow.Author.Rules.{rules}
-use borrow.Author.Tests.{le_ltb}
+use borrow.Author.Tests.{le-ltb}
 use Rattle.aes.specs.Cipher.{aes128}
 use Rattle.line.specs.Tests.{most_in}
 use Rattle.line.proofs.Steady.{scanned_block, scan_takes, scan_stretched}
@@ -18,7 +18,7 @@ search_requires c κs =
     let room = s.requires.1.0 in
     let place : a.g.line.position.place < 128 = s.requires.0.good.place_in in
     let m_is : m.result ≡ min a.n (128 - a.g.line.position.place) = m.ensures in
-    let most : most_in a.g.line ≤ 7 = rw (le_ltb 0 a.g.line.left (omega (arith, s.requires.1.1.1))) (omega arith) in
+    let most : most_in a.g.line ≤ 7 = rw (le-ltb 0 a.g.line.left (omega (arith, s.requires.1.1.1))) (omega arith) in
     (omega (arith, m_is), omega (arith, most, s.requires.0.good.seen_in), s.requires.0.good.window_in)
 
 scanned_to_requires : tie.Need-scanned-to-requires

@@ -13,13 +13,13 @@ returns c =
       c.is_ragged.ensures,
       c.before.wide.ensures,
       c.before.before.are_overlapping.ensures,
-      o.is_outside2.ensures,
+      o.is-outside2.ensures,
       o.before.is_outside.ensures,
-      o.before.before.number_at4.ensures.0,
+      o.before.before.number-at4.ensures.0,
       o.before.before.before.byte2.ensures,
       o.before.before.before.before.byte.ensures,
-      n.number_at3.ensures.0,
-      n.before.number_at2.ensures.0,
+      n.number-at3.ensures.0,
+      n.before.number-at2.ensures.0,
       n.before.before.number_at.ensures.0,
     )
 

@@ -1,13 +1,13 @@
 -- The numbers are bytes, so that nothing overflows.
 use Prim.Native.Nat.{ℕ, ◌+◌, ◌*◌, ◌^◌, ◌<◌, ◌≤◌}
 use native.Mathlib.Omega.{arith}
-use native.Mathlib.Nat.{mul_le_mul}
+use native.Mathlib.Nat.{mul-le-mul}
 use borrow.Author.Rules.{rules}
 use Rattle.linefile.proofs.reader.is_rate_refused.Statement.{statement}
 use Rattle.linefile.proofs.reader.is_rate_refused.Tie as tie
 
 product : (a b : ℕ) → a ≤ 255 → b ≤ 255 → a * (b + 1) < 2 ^ 64
-product a b ha hb = let q : b + 1 ≤ 256 = omega arith in omega (arith, mul_le_mul ha q)
+product a b ha hb = let q : b + 1 ≤ 256 = omega arith in omega (arith, mul-le-mul ha q)
 
 mul_result_2 : tie.Need-overflow-mul-result-2
 mul_result_2 c =

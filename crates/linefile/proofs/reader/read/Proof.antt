@@ -14,7 +14,7 @@ returns : tie.Need-returns
 unfolding contents
 returns c =
     let t = c.before.before.before in
-    rw (c.before.before.settings_in.ensures, c.before.number_at.ensures.0, c.number_at2.ensures.0, ← t.before.before.tried.ensures, t.enum_told.given.1)
+    rw (c.before.before.settings_in.ensures, c.before.number_at.ensures.0, c.number-at2.ensures.0, ← t.before.before.tried.ensures, t.enum_told.given.1)
 
 returns_2 : tie.Need-returns-2
 unfolding contents

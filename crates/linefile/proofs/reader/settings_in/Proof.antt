@@ -14,7 +14,7 @@ returns c =
     let n = b.before.before.before.before in
     let s = n.before.before in
     let f = s.args.file.now in
-    let known : Bytes f = λ i. omega (arith, n.before.shared_slice_known.given i) in
+    let known : Bytes f = λ i. omega (arith, n.before.shared-slice-known.given i) in
     rw (
       c.read2.ensures,
       c.before.read.ensures,

@@ -17,23 +17,23 @@ loop_holds c =
     none_appended a.args.output.now a.args.at a.args.s.now a.args.n a.requires.0 a.requires.1 a.requires.3
 
 add_write : tie.Need-overflow-add-write invariant_loop decreases_loop
-add_write c = let t = c.before.before in omega (arith, t.loop_test.true, t.before.before.before.before.requires.2)
+add_write c = let t = c.before.before in omega (arith, t.loop-test.true, t.before.before.before.before.requires.2)
 
 add_i : tie.Need-overflow-add-i invariant_loop decreases_loop
 add_i c = let l = c.before.before.before.before.before in omega (arith, l.least.ensures, l.before.before.before.before.before.requires.2)
 
 loop_less : tie.Need-loop-smaller invariant_loop decreases_loop
-loop_less c = let l = c.before.before.before.before.before in omega (arith, l.least.ensures, l.before.loop_test.true)
+loop_less c = let l = c.before.before.before.before.before in omega (arith, l.least.ensures, l.before.loop-test.true)
 
 loop_again : tie.Need-loop-preserved invariant_loop decreases_loop
 loop_again c =
     let l = c.before.before.before.before.before in
     let h = l.before.before.loop in
-    more_appended _ _ _ _ h.output h.i h.invariant l.least.result c.before.before.before.read.result _ (omega (arith, l.least.ensures)) (omega (arith, l.least.ensures, l.before.loop_test.true))
+    more_appended _ _ _ _ h.output h.i h.invariant l.least.result c.before.before.before.read.result _ (omega (arith, l.least.ensures)) (omega (arith, l.least.ensures, l.before.loop-test.true))
     c.before.before.before.read.ensures c.before.before.write.ensures
 
 returns : tie.Need-returns invariant_loop decreases_loop
-returns c = let l = c.before.loop in all_appended _ _ _ _ l.output l.i l.invariant c.loop_test.false
+returns c = let l = c.before.loop in all_appended _ _ _ _ l.output l.i l.invariant c.loop-test.false
 
 same_length : tie.Need-same-length invariant_loop decreases_loop
 same_length c = let l = c.before.loop in as_long _ _ _ _ l.output l.i l.invariant

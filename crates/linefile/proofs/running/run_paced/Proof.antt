@@ -24,13 +24,13 @@ loop_holds c =
     pacing a.args.c a.args.file.now a.args.from a.args.n a.args.output.now k.2 a.requires c.before.«open».result k.0 k.1 c.before.«open».ensures
 
 add_tick_on : tie.Need-overflow-add-tick-on invariant_loop decreases_loop
-add_tick_on c = omega (arith, c.before.loop_test.true, c.before.before.before.before.before.before.before.before.before.before.before.before.before.requires.few)
+add_tick_on c = omega (arith, c.before.loop-test.true, c.before.before.before.before.before.before.before.before.before.before.before.before.before.requires.few)
 
 tick_on_requires : tie.Need-tick-on-requires invariant_loop decreases_loop
 tick_on_requires c κs =
     let a = c.before.before.before.before.before.before.before.before.before.before.before.before.before.before in
     let l = c.before.before.before.loop in
-    can_tick a.args.c a.args.file.now a.args.from a.args.n a.args.output.now (known a).2 a.requires l.output l.g l.i l.invariant c.before.before.loop_test.true
+    can_tick a.args.c a.args.file.now a.args.from a.args.n a.args.output.now (known a).2 a.requires l.output l.g l.i l.invariant c.before.before.loop-test.true
 
 loop_again : tie.Need-loop-preserved invariant_loop decreases_loop
 loop_again c =
@@ -38,26 +38,26 @@ loop_again c =
     let l = c.before.before.before.before.before.before.loop in
     let t = c.before.before.tick_on in
     paced_on a.args.c a.args.file.now a.args.from a.args.n a.args.output.now (known a).2 a.requires l.output l.g l.i l.invariant
-    c.before.before.before.before.before.loop_test.true _ t.result t.ensures.0 t.ensures.1
+    c.before.before.before.before.before.loop-test.true _ t.result t.ensures.0 t.ensures.1
 
 add_i : tie.Need-overflow-add-i invariant_loop decreases_loop
 add_i c = let a = c.before.before.before.before.before.before.before.before.before.before.before.before.before.before.before.before.before in omega (arith, (loop_again c).high, a.requires.few)
 
 loop_less : tie.Need-loop-smaller invariant_loop decreases_loop
-loop_less c = let a = c.before.before.before.before.before.before.before.before.before.before.before.before.before.before.before.before.before in omega (arith, c.before.before.before.before.before.loop_test.true, a.requires.some)
+loop_less c = let a = c.before.before.before.before.before.before.before.before.before.before.before.before.before.before.before.before.before in omega (arith, c.before.before.before.before.before.loop-test.true, a.requires.some)
 
 close_on_requires : tie.Need-close-on-requires invariant_loop decreases_loop
 close_on_requires c κs =
     let a = c.before.before.before.before.before.before.before.before.before.before.before.before.before in
     let l = c.before.before.loop in
-    can_close a.args.c a.args.file.now a.args.from a.args.n a.args.output.now (known a).2 a.requires l.output l.g l.i l.invariant c.before.loop_test.false
+    can_close a.args.c a.args.file.now a.args.from a.args.n a.args.output.now (known a).2 a.requires l.output l.g l.i l.invariant c.before.loop-test.false
 
 returns : tie.Need-returns invariant_loop decreases_loop
 returns c =
     let a = c.before.before.before.before.before.before.before.before.before.before.before.before.before.before.before.before in
     let l = c.before.before.before.before.before.loop in
     paced_all a.args.c a.args.file.now a.args.from a.args.n a.args.output.now (known a).2 a.requires l.output l.g l.i l.invariant
-    c.before.before.before.before.loop_test.false _ c.before.before.close_on.ensures
+    c.before.before.before.before.loop-test.false _ c.before.before.close_on.ensures
 
 same_length : tie.Need-same-length invariant_loop decreases_loop
 same_length c =

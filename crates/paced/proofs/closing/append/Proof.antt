@@ -9,7 +9,7 @@ returns : tie.Need-returns
 returns c =
     let s = c.before.before.before.before.before in
     let a = s.args in
-    appended a.output.now _ a.b a.at a.n (λ i. omega (arith, c.before.before.before.before.slice_known.given i)) s.requires.0 s.requires.1 c.before.before.write.ensures
+    appended a.output.now _ a.b a.at a.n (λ i. omega (arith, c.before.before.before.before.slice-known.given i)) s.requires.0 s.requires.1 c.before.before.write.ensures
 
 pub append_spec : {M : Type 1} → statement M
 append_spec =

@@ -6,7 +6,7 @@ use native.Mathlib.Omega.{arith}
 use lib.Dec.{ltb}
 use lib.ListN.{length}
 use borrow.Author.Rules.{rules}
-use borrow.Author.Tests.{lt_ltb, le_ltb}
+use borrow.Author.Tests.{lt-ltb, le-ltb}
 use Rattle.bits.proofs.Arrays.{field_length, field_bytes}
 use Rattle.refusal.specs.declared.Refusal.{Refusal}
 use Rattle.paced.specs.Tests.{faulty}
@@ -37,7 +37,7 @@ returns_3 c =
     let a = c.before.before.before.before.before.before.before.args in
     let f1 : faulty a.p ≡ false = sym c.before.before.before.before.before.is_faulty.ensures ∙ c.before.before.before.before.if1.false in
     let f2 : a.p.closed ≡ false = c.before.before.before.if2.false in
-    let f3 : ltb (length a.output.now) ((a.p.waiting + a.p.ready + 7) / 8) ≡ true = lt_ltb (length a.output.now) ((a.p.waiting + a.p.ready + 7) / 8) (omega (arith, c.if3.true, c.before.wide2.ensures, c.before.before.wide.ensures)) in
+    let f3 : ltb (length a.output.now) ((a.p.waiting + a.p.ready + 7) / 8) ≡ true = lt-ltb (length a.output.now) ((a.p.waiting + a.p.ready + 7) / 8) (omega (arith, c.if3.true, c.before.wide2.ensures, c.before.before.wide.ensures)) in
     close_refused a.p a.output.now (Refusal.Output) (simp (f1, f2, f3))
 
 closed_requires : tie.Need-closed-requires
@@ -58,7 +58,7 @@ returns_4 c =
     let a = c.before.before.before.before.before.before.before.before.before.before.before.args in
     let f1 : faulty a.p ≡ false = sym c.before.before.before.before.before.before.before.before.before.is_faulty.ensures ∙ c.before.before.before.before.before.before.before.before.if1.false in
     let f2 : a.p.closed ≡ false = c.before.before.before.before.before.before.before.if2.false in
-    let f3 : ltb (length a.output.now) ((a.p.waiting + a.p.ready + 7) / 8) ≡ false = le_ltb (length a.output.now) ((a.p.waiting + a.p.ready + 7) / 8) (omega (arith, c.before.before.before.before.if3.false, c.before.before.before.before.before.wide2.ensures, c.before.before.before.before.before.before.wide.ensures)) in
+    let f3 : ltb (length a.output.now) ((a.p.waiting + a.p.ready + 7) / 8) ≡ false = le-ltb (length a.output.now) ((a.p.waiting + a.p.ready + 7) / 8) (omega (arith, c.before.before.before.before.if3.false, c.before.before.before.before.before.wide2.ensures, c.before.before.before.before.before.before.wide.ensures)) in
     close_done a.p a.output.now _ _ (simp (f1, f2, f3)) c.before.before.closed.ensures.0 c.before.before.closed.ensures.1
 
 pub close_spec : {M : Type 1} → statement M

@@ -44,7 +44,7 @@ loop_less c =
     let s = c.before.before.before.before.before.before.before.before.before.before in
     let l = c.before.before.before.before.before.before.before.before.loop in
     let m_is : c.before.before.before.before.before.before.least.result ≡ min (s.args.n - l.i) 128 = c.before.before.before.before.before.before.least.ensures in
-    omega (arith, m_is, c.before.before.before.before.before.before.before.loop_test.true)
+    omega (arith, m_is, c.before.before.before.before.before.before.before.loop-test.true)
 
 same_length : tie.Need-same-length invariant_loop decreases_loop
 same_length c =
@@ -66,7 +66,7 @@ returns : tie.Need-returns invariant_loop decreases_loop
 returns c =
     let s = c.before.before.before in
     let l = c.before.loop in
-    let e : l.i ≡ s.args.n = omega (arith, l.invariant.0, c.loop_test.false) in
+    let e : l.i ≡ s.args.n = omega (arith, l.invariant.0, c.loop-test.false) in
     l.invariant.1 ∙ ap (λ (n : ℕ). laid s.args.output.now 0 (part s.args.t1 0 n)) e
 
 pub copy_spec : {M : Type 1} → statement M

@@ -55,7 +55,7 @@ loop_less c =
     let s = c.before.before.before.before.before.before.before.before.before.before.before.before.before in
     let l = c.before.before.before.before.before.before.before.before.before.before.before.loop in
     let m_is : c.before.before.before.before.before.before.before.before.before.least.result ≡ min (s.args.from + s.args.n - l.i) 128 = c.before.before.before.before.before.before.before.before.before.least.ensures in
-    omega (arith, m_is, c.before.before.before.before.before.before.before.before.before.before.loop_test.true)
+    omega (arith, m_is, c.before.before.before.before.before.before.before.before.before.before.loop-test.true)
 
 loop_again : tie.Need-loop-preserved invariant_loop decreases_loop
 loop_again c =
@@ -70,7 +70,7 @@ loop_again c =
 
 returns : tie.Need-returns invariant_loop decreases_loop
 returns c =
-    let r = stop _ _ _ _ _ _ _ _ _ c.before.loop.invariant c.loop_test.false in
+    let r = stop _ _ _ _ _ _ _ _ _ c.before.loop.invariant c.loop-test.false in
     record { line = r.line; out = r.out }
 
 pub pass_on_spec : {M : Type 1} → statement M

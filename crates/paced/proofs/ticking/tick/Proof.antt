@@ -6,7 +6,7 @@ use native.Mathlib.Omega.{arith}
 use lib.Dec.{ltb}
 use lib.ListN.{length}
 use borrow.Author.Rules.{rules}
-use borrow.Author.Tests.{lt_ltb, le_ltb}
+use borrow.Author.Tests.{lt-ltb, le-ltb}
 use Rattle.bits.proofs.Arrays.{field_length, field_bytes}
 use Rattle.refusal.specs.declared.Refusal.{Refusal}
 use Rattle.paced.specs.Tests.{faulty}
@@ -37,7 +37,7 @@ returns_3 c =
     let a = c.before.before.before.before.before.before.before.args in
     let f1 : faulty a.p ≡ false = sym c.before.before.before.before.is_faulty.ensures ∙ c.before.before.before.if1.false in
     let f2 : a.p.closed ≡ false = c.before.before.if2.false in
-    let f3 : ltb (length a.input.now) ((a.p.d + 7) / 8) ≡ true = lt_ltb _ _ c.if3.true in
+    let f3 : ltb (length a.input.now) ((a.p.d + 7) / 8) ≡ true = lt-ltb _ _ c.if3.true in
     tick_refused a.p a.input.now a.output.now (Refusal.Input) (simp (f1, f2, f3))
 
 returns_4 : tie.Need-returns-4
@@ -46,8 +46,8 @@ returns_4 c =
     let a = c.before.before.before.before.before.before.before.before.args in
     let f1 : faulty a.p ≡ false = sym c.before.before.before.before.before.is_faulty.ensures ∙ c.before.before.before.before.if1.false in
     let f2 : a.p.closed ≡ false = c.before.before.before.if2.false in
-    let f3 : ltb (length a.input.now) ((a.p.d + 7) / 8) ≡ false = le_ltb _ _ c.before.if3.false in
-    let f4 : ltb (length a.output.now) ((a.p.d + 7) / 8) ≡ true = lt_ltb _ _ c.if4.true in
+    let f3 : ltb (length a.input.now) ((a.p.d + 7) / 8) ≡ false = le-ltb _ _ c.before.if3.false in
+    let f4 : ltb (length a.output.now) ((a.p.d + 7) / 8) ≡ true = lt-ltb _ _ c.if4.true in
     tick_refused a.p a.input.now a.output.now (Refusal.Output) (simp (f1, f2, f3, f4))
 
 ticked_requires : tie.Need-ticked-requires
@@ -56,8 +56,8 @@ ticked_requires c κs =
     let a = c.before.before.before.before.before.before.before.before.before.args in
     let f1 : faulty a.p ≡ false = sym c.before.before.before.before.before.before.is_faulty.ensures ∙ c.before.before.before.before.before.if1.false in
     let f2 : a.p.closed ≡ false = c.before.before.before.before.if2.false in
-    let f3 : ltb (length a.input.now) ((a.p.d + 7) / 8) ≡ false = le_ltb _ _ c.before.before.if3.false in
-    let f4 : ltb (length a.output.now) ((a.p.d + 7) / 8) ≡ false = le_ltb _ _ c.before.if4.false in
+    let f3 : ltb (length a.input.now) ((a.p.d + 7) / 8) ≡ false = le-ltb _ _ c.before.before.if3.false in
+    let f4 : ltb (length a.output.now) ((a.p.d + 7) / 8) ≡ false = le-ltb _ _ c.before.if4.false in
     let g = s.well_formed.0.1.1 in
     let u = g.0.1.1 in (
       open_of a.p f1 f2 u.1.0.1 (field_length 16 a.p.line.iv _ u.1.1.1.1.1.1.1.1.0) (field_bytes 16 a.p.line.iv _ u.1.1.1.1.1.1.1.1.0) (field_length 60 a.p.queue _ g.1.1.1.1.1.1.0) (field_bytes 60 a.p.queue _ g.1.1.1.1.1.1.0),
@@ -70,8 +70,8 @@ returns_5 c =
     let a = c.before.before.before.before.before.before.before.before.before.before.before.before.args in
     let f1 : faulty a.p ≡ false = sym c.before.before.before.before.before.before.before.before.before.is_faulty.ensures ∙ c.before.before.before.before.before.before.before.before.if1.false in
     let f2 : a.p.closed ≡ false = c.before.before.before.before.before.before.before.if2.false in
-    let f3 : ltb (length a.input.now) ((a.p.d + 7) / 8) ≡ false = le_ltb _ _ c.before.before.before.before.before.if3.false in
-    let f4 : ltb (length a.output.now) ((a.p.d + 7) / 8) ≡ false = le_ltb _ _ c.before.before.before.before.if4.false in
+    let f3 : ltb (length a.input.now) ((a.p.d + 7) / 8) ≡ false = le-ltb _ _ c.before.before.before.before.before.if3.false in
+    let f4 : ltb (length a.output.now) ((a.p.d + 7) / 8) ≡ false = le-ltb _ _ c.before.before.before.before.if4.false in
     tick_done a.p a.input.now a.output.now _ _ (simp (f1, f2, f3, f4)) c.before.before.ticked.ensures.0 c.before.before.ticked.ensures.1
 
 pub tick_spec : {M : Type 1} → statement M

@@ -2,7 +2,7 @@
 use mathlib.Core.List.{List}
 use Prim.Native.Nat.{ℕ}
 use lib.ListN.{length}
-use borrow.Author.Tests.{lt_leb, le_leb}
+use borrow.Author.Tests.{lt-leb, le-leb}
 use borrow.Author.Rules.{rules}
 use Rattle.refusal.specs.Numbers.{number_of}
 use Rattle.line.specs.declared.free.Reply.{Reply}
@@ -14,7 +14,7 @@ use Rattle.tisarqluk.proofs.free_calls.tq_free_open.Tie as tie
 
 returns : tie.Need-returns
 returns c =
-    let short = lt_leb 58 (length c.before.before.before.before.args.buf.now) c.if1.true in
+    let short = lt-leb 58 (length c.before.before.before.before.args.buf.now) c.if1.true in
     (unless _ short, unless _ short)
 
 returns_2 : tie.Need-returns-2
@@ -24,7 +24,7 @@ returns_2 c =
     let s : List ℕ = a.buf.now in
     let e = c.before.before.settle.ensures in
     opened (opening a.key.now a.iv.now a.pattern a.l (receives a.direction)) (λ (r : Reply). number_of r.answer) (λ (r : Reply). kept r s) 9 s
-    (le_leb 58 (length s) o.before.if1.false) o.«open».ensures e.0 e.1
+    (le-leb 58 (length s) o.before.if1.false) o.«open».ensures e.0 e.1
 
 pub tq_free_open_spec : {M : Type 1} → statement M
 tq_free_open_spec = tie.close (tie.spec returns (λ c κs. search rules) (λ c κs. search rules) (λ c. search rules) returns_2)
