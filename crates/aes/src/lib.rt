@@ -1,4 +1,6 @@
 // AES-128 enciphering (FIPS 197): the key expansion, the cipher by the round keys, and one block by its key, by value or in lent slices.
+#![tactic(auto)]
+
 mod array;
 mod field;
 mod keys;

@@ -1,4 +1,6 @@
 // Packed bits, read and written at any bit of a buffer (01, "Bits and settings").
+#![tactic(auto)]
+
 ghost use Rattle.std.specs.Prelude.{◌≡◌, [], ◌++◌, min, ◌+◌, ◌-◌, ◌*◌, ◌/◌, ◌%◌, ◌^◌, ◌<◌, ◌≤◌, length, get_or, take, drop};
 ghost use Rattle.bits.specs.Blank.{blank};
 ghost use Rattle.bits.specs.Bits.{bits_of, pack, part, laid, wrote, digits};

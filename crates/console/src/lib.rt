@@ -1,11 +1,13 @@
 // Standard input and output of the programs: a read that fails is told from the end of the input, and a refusal has its one line.
+#![tactic(auto)]
+
 ghost use Rattle.io.specs.Counts.{IsPrefixLen};
 
 use libc::{STDERR_FILENO, STDIN_FILENO, STDOUT_FILENO};
 use refusal::Answer;
 
 // Whether all of the input was read, or as much as was room for, and how many bytes there are.
-#[derive(Drop)]
+#[derive(Clone, Copy)]
 pub struct Input {
     pub ok: bool,
     pub bytes: usize,

@@ -1,10 +1,12 @@
 // The counter and the place in its block, moved on bit by bit (01, "The counter"; source document 003).
+#![tactic(auto)]
+
 ghost use Rattle.std.specs.Prelude.{◌≡◌, ◌<◌};
 ghost use Rattle.bits.specs.Bits.{bits_of};
 ghost use Rattle.counter.specs.Counter.{r, feedback, stepped_bytes, advanced};
 
 // Sixteen bytes, r127 in the top bit of byte 0, and the place of the next keystream bit in the block that they make.
-#[derive(Drop)]
+#[derive(Clone, Copy)]
 pub struct Position {
     pub counter: [u8; 16],
     pub place: u8,

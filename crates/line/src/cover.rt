@@ -18,7 +18,7 @@ fn sum(a: [u8; 16], b: [u8; 16]) -> [u8; 16]
 }
 
 // What comes out, and the line bits.
-#[derive(Drop)]
+#[derive(Clone, Copy)]
 pub struct Covered {
     pub out: [u8; 16],
     pub carried: [u8; 16],

@@ -8,7 +8,7 @@ use counter::Position;
 use refusal::{Answer, Refusal};
 
 // The answer to a call, and the line after it: of a refused call the line as it came, of a refused opening a record of zeros.
-#[derive(Drop)]
+#[derive(Clone, Copy)]
 pub struct Reply {
     pub answer: Answer,
     pub line: Line,

@@ -2,7 +2,7 @@
 use counter::Position;
 
 // A bit that holds nothing is 0: of the window above its count, of the IV past the bits collected.
-#[derive(Drop)]
+#[derive(Clone, Copy)]
 pub struct Line {
     pub key: [u8; 16],
     pub pattern: u8,

@@ -3,7 +3,7 @@ ghost use Rattle.std.specs.Prelude.{◌^◌, ◌<◌, ◌≤◌};
 ghost use Rattle.line.specs.Inner.{Found};
 
 // How many bits were scanned, the window after them, and whether the last of them ended a pattern.
-#[derive(Drop)]
+#[derive(Clone, Copy)]
 pub struct Finding {
     pub count: usize,
     pub window: u8,

@@ -10,14 +10,14 @@ use super::{cover, search, tests};
 use counter::Position;
 
 // A line in the middle of a run, with the keystream block of its counter.
-#[derive(Drop)]
+#[derive(Clone, Copy)]
 pub struct Going {
     pub line: Line,
     pub block: [u8; 16],
 }
 
 // A line after a stretch, and the number of its bits.
-#[derive(Drop)]
+#[derive(Clone, Copy)]
 pub struct Stretch {
     pub going: Going,
     pub done: usize,

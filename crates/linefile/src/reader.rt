@@ -5,7 +5,7 @@ ghost use Rattle.linefile.specs.File.{number_at, outside, overlapping, ragged, m
 use refusal::{Answer, Refusal};
 
 // The 36 bytes of settings. D is 0 for a free line.
-#[derive(Drop)]
+#[derive(Clone, Copy)]
 pub struct Settings {
     pub l: u8,
     pub pattern: u8,
@@ -16,7 +16,7 @@ pub struct Settings {
 }
 
 // What a file says: its settings, how many bits it has and the byte at which they start. Of a refused file they are zeros.
-#[derive(Drop)]
+#[derive(Clone, Copy)]
 pub struct Contents {
     pub answer: Answer,
     pub settings: Settings,

@@ -16,7 +16,7 @@ use paced::record::Paced;
 use refusal::{Answer, Refusal};
 
 // The answer, and the number of bits written.
-#[derive(Drop)]
+#[derive(Clone, Copy)]
 pub struct Ran {
     pub answer: Answer,
     pub bits: u64,
@@ -58,7 +58,7 @@ fn written_by(t: Ticked) -> usize
 }
 
 // A paced line between two ticks, and the number of line bits that stand in the output.
-#[derive(Drop)]
+#[derive(Clone, Copy)]
 pub struct Going {
     pub line: Paced,
     pub at: usize,

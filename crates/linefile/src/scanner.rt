@@ -7,7 +7,7 @@ ghost use Rattle.linefile.specs.Syncs.{scanned as scannedBy};
 ghost use Rattle.linefile.specs.Inner.{Steady, Looked};
 
 // The scanner between two line bits: the window as a number with its count, and the blackout bits left.
-#[derive(Drop)]
+#[derive(Clone, Copy)]
 pub struct Scanner {
     pub window: u8,
     pub seen: u8,
@@ -15,7 +15,7 @@ pub struct Scanner {
 }
 
 // The scanner after a line bit, and whether a pattern ended there.
-#[derive(Drop)]
+#[derive(Clone, Copy)]
 pub struct Scanned {
     pub scanner: Scanner,
     pub found: bool,

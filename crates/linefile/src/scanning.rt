@@ -6,7 +6,7 @@ use super::{reader, scanner};
 use refusal::Answer;
 
 // What is printed of a file: its bit count and the number of patterns found; and L, which says how long a blackout is.
-#[derive(Drop)]
+#[derive(Clone, Copy)]
 pub struct Syncs {
     pub answer: Answer,
     pub bits: u64,

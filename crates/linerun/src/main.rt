@@ -1,4 +1,6 @@
 // `linerun`: writes the result bits of the line file on standard input (01, "Line files and the two programs").
+#![tactic(auto)]
+
 use linefile::running;
 use refusal::Answer;
 

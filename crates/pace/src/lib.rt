@@ -1,1 +1,2 @@
 // The tick over any bit rule: definitions in specs/, theorems in proofs/, no code.
+#![tactic(auto)]

@@ -8,7 +8,7 @@ ghost use Rattle.line.specs.Inner.{Good};
 use line::record::Line;
 
 // The line after the bits, and what came out.
-#[derive(Drop)]
+#[derive(Clone, Copy)]
 pub struct Block {
     pub line: Line,
     pub out: [u8; 16],

@@ -1,4 +1,6 @@
 // The paced line by value: its record, the tests for 9, opening, the tick, closing (01, "The tick", "Numbers given instead of bits").
+#![tactic(auto)]
+
 pub mod answer;
 mod block;
 pub mod closing;

@@ -2,7 +2,7 @@
 use line::record::Line;
 
 // The queue has the ready bits, oldest first, and then the waiting bits, packed from the top; a bit that holds nothing is 0. M is at most 477.
-#[derive(Drop)]
+#[derive(Clone, Copy)]
 pub struct Paced {
     pub line: Line,
     pub d: u8,

@@ -31,7 +31,7 @@ fn width_of(left: u16) -> usize
 }
 
 // The line and the queue after a move, and the number of bits moved.
-#[derive(Drop)]
+#[derive(Clone, Copy)]
 pub struct Move {
     pub line: Line,
     pub queue: [u8; 60],

@@ -1,9 +1,11 @@
 // The numbers that document 01 gives instead of bits ("Numbers given instead of bits"), as an enum.
+#![tactic(auto)]
+
 ghost use Rattle.std.specs.Prelude.{◌≡◌};
 ghost use Rattle.refusal.specs.Numbers.{number_of, refusal_of};
 
 // Why a call was refused, in the order of the document's numbers, 1 to 10.
-#[derive(Drop)]
+#[derive(Clone, Copy)]
 pub enum Refusal {
     Key,
     Iv,
@@ -18,7 +20,7 @@ pub enum Refusal {
 }
 
 // What a call answers: it was done, or it was refused.
-#[derive(Drop)]
+#[derive(Clone, Copy)]
 pub enum Answer {
     Done,
     Refused(Refusal),

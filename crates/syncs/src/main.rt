@@ -1,4 +1,6 @@
 // `syncs`: prints where patterns end in the bits of the line file on standard input (01, "Line files and the two programs").
+#![tactic(auto)]
+
 use linefile::scanning;
 use linefile::scanning::Syncs;
 use refusal::Answer;

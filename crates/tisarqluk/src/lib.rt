@@ -1,4 +1,6 @@
 // For hosts in C and Rust: AES of one block, and lines whose records lie in lent bytes (01, "The equipment covered"; docs/RECORD.md).
+#![tactic(auto)]
+
 mod bytes;
 pub mod free_calls;
 mod free_record;

@@ -9,7 +9,7 @@ use paced::answer::{Moved, Reply, Ticked};
 
 // What a tick or a closing answers: a refusal's number, 0 where there is none, the line bits written and the bits waiting.
 #[repr(C)]
-#[derive(Drop)]
+#[derive(Clone, Copy)]
 pub struct TqAnswer {
     pub refusal: u32,
     pub bits: u32,

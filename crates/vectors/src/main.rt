@@ -6,6 +6,8 @@
 // 128  AESAVS VarTxt: the key 0, and the plaintext whose first i bits are 1, for i from 1 to 128;
 // 128  AESAVS VarKey: the same with key and plaintext exchanged.
 // Each ciphertext is what `openssl enc -aes-128-ecb -nopad -K KEY` (OpenSSL 3.0) makes of the plaintext.
+#![tactic(auto)]
+
 ghost use Rattle.std.specs.Prelude.{◌≤◌};
 
 use libc::{STDIN_FILENO, STDOUT_FILENO};

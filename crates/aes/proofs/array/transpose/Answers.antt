@@ -1,0 +1,9 @@
+-- `aes::array::transpose` meets its contract. Assumes nothing.
+use mathlib.Core.Path.{refl}
+use Rattle.aes.specs.State.{columns}
+use borrow.Author.Rules.{rules}
+use Rattle.aes.proofs.array.transpose.Goals as goal
+
+pub returns : goal.returns
+unfolding columns
+returns c = refl

@@ -1,0 +1,16 @@
+use Prim.Native.Nat.{◌-◌, ◌≤◌}
+use mathlib.Core.Path.{◌≡◌, refl}
+use mathlib.Core.List.{map}
+use native.Mathlib.Omega.{arith}
+use Rattle.aes.specs.State.{columns}
+use Rattle.aes.specs.Cipher.{rounds}
+use Rattle.aes.proofs.SBoxTable.{s_box_at}
+use Rattle.aes.proofs.Schedule.{rounded, ciphered}
+use borrow.Author.Rules.{rules}
+use Rattle.aes.proofs.encipher_by.Given as goal
+
+abbrev pub invariant-loop-i : goal.invariant-loop-i
+invariant-loop-i l = (l.i ≤ 9) × (l.s ≡ rounds (map columns l.ks) l.initial.s l.i)
+
+abbrev pub decreases-loop-i : goal.decreases-loop-i
+decreases-loop-i l = 9 - l.i
