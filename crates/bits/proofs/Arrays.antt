@@ -1,8 +1,8 @@
 -- What a function is told of an array of bytes that it is passed: its length, and that each element is a byte. Assumes nothing.
---     array_length, array_bytes     of `c.good.0` of the first parameter, `c.good.1.0` of the second
---     field_length, field_bytes     of a field of a struct that is passed first: `c.good.0.1.1`, then `.1` for each field before it, then `.0`
-use mathlib.Core.Path.{◌≡◌, subst}
-use mathlib.Core.List.{List, [], ◌∷◌, map, map-id}
+-- The fact stands at `c.well_formed.0` for the first parameter, at `c.well_formed.1.0` for the second; for a field of a struct that is passed first, at
+-- `c.well_formed.0.1.1`, then `.1` for each field before it, then `.0`.
+use mathlib.Core.Path.{◌≡◌}
+use mathlib.Core.List.{List, [], ◌∷◌}
 use Prim.Native.Nat.{ℕ, zero, suc}
 use lib.ListN.{length}
 use lib.Dec.{lit<}
@@ -27,11 +27,3 @@ module _ (n : ℕ) (xs : List ℕ) (vs : List Val) (p : Is (Array (UInt w8) n) x
 
   pub array_bytes : Bytes xs
   array_bytes = each_bytes xs p.0 p.1.1
-
--- a field's list stands there under a map that changes nothing
-module _ (n : ℕ) (xs : List ℕ) (vs : List Val) (p : Is (Array (UInt w8) n) (map (λ (x : ℕ). x) xs) vs) where
-  pub field_length : length xs ≡ n
-  field_length = subst (λ (l : List ℕ). length l ≡ n) (map-id xs) (array_length n (map (λ (x : ℕ). x) xs) vs p)
-
-  pub field_bytes : Bytes xs
-  field_bytes = subst Bytes (map-id xs) (array_bytes n (map (λ (x : ℕ). x) xs) vs p)

@@ -11,7 +11,7 @@ use super::stretch::Going;
 fn scan_run(input: &[u8], output: &mut [u8], from: usize, n: usize, g: Going) -> Going
     requires ready { Ready g }
     requires room { Room input.now output.old from n }
-    requires left_value { g.line.left ≡ 0 }
+    requires scanning { g.line.left ≡ 0 }
     ensures { Ran input.now output.old from n g result output.new }
 {
     let mut h = g;
@@ -35,7 +35,7 @@ fn scan_run(input: &[u8], output: &mut [u8], from: usize, n: usize, g: Going) ->
 fn dark_run(input: &[u8], output: &mut [u8], from: usize, n: usize, g: Going) -> Going
     requires ready { Ready g }
     requires room { Room input.now output.old from n }
-    requires left_nonzero { 0 < g.line.left }
+    requires dark { 0 < g.line.left }
     ensures { Ran input.now output.old from n g result output.new }
 {
     let mut h = g;

@@ -81,7 +81,7 @@ pub(crate) fn scan_stretch(
 ) -> Stretch
     requires ready { Ready g }
     requires room { Room input.now output.old from n }
-    requires n_nonzero { (0 < n) × (g.line.left ≡ 0) }
+    requires scanning { (0 < n) × (g.line.left ≡ 0) }
     ensures { Stretched input.now output.old from n g result output.new }
 {
     let line = g.line;
@@ -150,7 +150,7 @@ pub(crate) fn dark_stretch(
 ) -> Stretch
     requires ready { Ready g }
     requires room { Room input.now output.old from n }
-    requires n_nonzero { (0 < n) × (0 < g.line.left) }
+    requires dark { (0 < n) × (0 < g.line.left) }
     ensures { Stretched input.now output.old from n g result output.new }
 {
     let line = g.line;

@@ -12,8 +12,7 @@ use Rattle.bits.specs.Bits.{bits_of, pack, part}
 use Rattle.bits.proofs.Parts.{pack_part}
 use Rattle.bits.proofs.Arrays.{array_length}
 use Rattle.line.specs.Inner.{Covers}
-use Rattle.line.proofs.cover.cover.Statement.{statement}
-use Rattle.line.proofs.cover.cover.Tie as tie
+use Rattle.line.proofs.cover.cover.Goals as goal
 
 module _ (s b : List ℕ) (i p n : ℕ) (in-s : i + n ≤ 8 * length s) (in_b : p + n ≤ 128) (sixteen : length b ≡ 16) (given keys out : List ℕ)
     (g : given ≡ pack 16 (part s i n)) (k : keys ≡ pack 16 (part b p n)) (o : bits_of out ≡ plus (bits_of given) (bits_of keys)) where
@@ -31,19 +30,14 @@ module _ (s b : List ℕ) (i p n : ℕ) (in-s : i + n ≤ 8 * length s) (in_b : 
   sent : (d : Bool) → d ≡ false → Covers (part s i n) (part b p n) d n (record { out = out; carried = out })
   sent d e = record { out = out_is; carried = rw e out_is }
 
-returns : tie.Need-returns
-returns c =
-    let s = c.before.before.before.before.before.before in
-    let a = s.args in
-    received a.input.now a.t4 a.from a.place a.n s.requires.0 s.requires.1 (array_length 16 a.t4 _ s.well_formed.1.1.1.0) _ _ _
-    c.before.before.before.before.read.ensures c.before.before.read2.ensures c.before.sum.ensures a.receiving c.if1.true
+pub returns-then-receiving : goal.returns-then-receiving
+returns-then-receiving c =
+    let a = c.args in
+    received a.input.now a.block a.from a.place a.n c.requires.0 c.requires.1 (array_length 16 a.block _ c.well_formed.1.1.1.0) _ _ _
+    c.read-given.ensures c.read-keys.ensures c.sum-out.ensures a.receiving c.if-receiving.true
 
-returns_2 : tie.Need-returns-2
-returns_2 c =
-    let s = c.before.before.before.before.before.before in
-    let a = s.args in
-    sent a.input.now a.t4 a.from a.place a.n s.requires.0 s.requires.1 (array_length 16 a.t4 _ s.well_formed.1.1.1.0) _ _ _
-    c.before.before.before.before.read.ensures c.before.before.read2.ensures c.before.sum.ensures a.receiving c.if1.false
-
-pub cover_spec : {M : Type 1} → statement M
-cover_spec = tie.close (tie.spec (λ c κs. tt) (λ c. search rules) (λ c κs. tt) (λ c κs. tt) returns returns_2)
+pub returns-else-receiving : goal.returns-else-receiving
+returns-else-receiving c =
+    let a = c.args in
+    sent a.input.now a.block a.from a.place a.n c.requires.0 c.requires.1 (array_length 16 a.block _ c.well_formed.1.1.1.0) _ _ _
+    c.read-given.ensures c.read-keys.ensures c.sum-out.ensures a.receiving c.if-receiving.false
