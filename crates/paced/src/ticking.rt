@@ -64,8 +64,8 @@ fn passing(line: Line, q: [u8; 60], at: usize, n: usize) -> Move
 
 // A tick of an open line with bytes enough on both sides.
 fn ticked(p: Paced, input: &[u8], output: &mut [u8]) -> Moved
-    requires fact { Open p }
-    requires d_bound { (p.d ≤ 8 * length input.now) × (p.d ≤ 8 * length output.old) }
+    requires opened { Open p }
+    requires room { (p.d ≤ 8 * length input.now) × (p.d ≤ 8 * length output.old) }
     ensures value { result ≡ ticked_to p input.now }
     ensures output_after { output.new ≡ laid output.old 0 (leaving_from p) }
 {

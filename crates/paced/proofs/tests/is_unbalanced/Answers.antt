@@ -1,0 +1,6 @@
+-- The tests are the document's, once M is.
+use borrow.Author.Rules.{rules}
+use Rattle.paced.proofs.tests.is_unbalanced.Goals as goal
+
+pub returns : goal.returns
+returns c = rw c.hold_of-m.ensures
