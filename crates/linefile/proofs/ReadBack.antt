@@ -52,20 +52,20 @@ module _ (c : Settings) (r : List ℕ) (a b n : ℕ) (w : Writable c r a b n) (s
       stored_outside packed (sets header b (setting_bytes c)) a k (inl (omega (arith, w.bits_after)))
       ∙ stored_outside (setting_bytes c) header b k (inl (omega (arith, w.settings_after)))
 
-  number_at : (i x : ℕ) → i ≤ 12 → number_at header i ≡ x → number_at file i ≡ x
-  number_at i x h e = rw (head_at i (omega arith), head_at (i + 1) (omega arith), head_at (i + 2) (omega arith), head_at (i + 3) (omega arith)) e
+  number_kept : (i x : ℕ) → i ≤ 12 → number_at header i ≡ x → number_at file i ≡ x
+  number_kept i x h e = rw (head_at i (omega arith), head_at (i + 1) (omega arith), head_at (i + 2) (omega arith), head_at (i + 3) (omega arith)) e
 
   stated : stated_length file ≡ n
-  stated = number_at 0 n (omega arith) (word_is n)
+  stated = number_kept 0 n (omega arith) (word_is n)
 
   count : count_of file ≡ length r
-  count = number_at 4 (length r) (omega arith) (word_is (length r))
+  count = number_kept 4 (length r) (omega arith) (word_is (length r))
 
   bits_start : bits_at file ≡ a
-  bits_start = number_at 8 a (omega arith) (word_is a)
+  bits_start = number_kept 8 a (omega arith) (word_is a)
 
   settings_start : settings_at file ≡ b
-  settings_start = number_at 12 b (omega arith) (word_is b)
+  settings_start = number_kept 12 b (omega arith) (word_is b)
 
   -- the settings stand from byte b on, and the packed bits from byte a on
   setting_kept : (j : ℕ) → j < 36 → get_or file (b + j) 0 ≡ get_or (setting_bytes c) j 0

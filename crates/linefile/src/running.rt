@@ -6,7 +6,7 @@ ghost use Rattle.line.specs.View.{rule_of, view};
 ghost use Rattle.paced.specs.Answers.{bits_in};
 ghost use Rattle.paced.specs.Ticking.{leaving_from};
 ghost use Rattle.paced.specs.Closing.{last_from};
-ghost use Rattle.linefile.specs.Run.{line_of, ran as ranOf, result_left};
+ghost use Rattle.linefile.specs.Run.{line_of, ran as ran_of, result_left};
 ghost use Rattle.linefile.specs.Paces.{Ticks, ticked_on, Closes, Paceable};
 
 use super::reader;
@@ -120,7 +120,7 @@ fn run_paced(c: Settings, file: &[u8], from: usize, n: usize, output: &mut [u8])
 
 // The result bits of a file, free or by ticks and closing, from the output's first bit on.
 pub fn run(file: &[u8], output: &mut [u8]) -> Ran
-    ensures value { result ≡ ranOf file.now output.old }
+    ensures value { result ≡ ran_of file.now output.old }
     ensures output_after { output.new ≡ result_left file.now output.old }
 {
     let c = reader::read(file);

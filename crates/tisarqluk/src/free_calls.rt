@@ -7,8 +7,7 @@ use super::free_record;
 use line::free::Reply;
 
 // How long a free line's record buffer must be.
-#[unsafe(no_mangle)]
-pub extern "C" fn tq_free_record_bytes() -> usize
+pub fn tq_free_record_bytes() -> usize
     ensures { result ≡ 58 }
 {
     free_record::BYTES
@@ -30,8 +29,7 @@ fn settle(r: Reply, buf: &mut [u8]) -> u32
 }
 
 // Opens a free line in a buffer; direction 0 sends, any other receives.
-#[unsafe(no_mangle)]
-pub extern "C" fn tq_free_open(
+pub fn tq_free_open(
     buf: &mut [u8],
     key: &[u8],
     iv: &[u8],
@@ -50,8 +48,7 @@ pub extern "C" fn tq_free_open(
 }
 
 // Runs so many bits of the input through the free line in a buffer into the output.
-#[unsafe(no_mangle)]
-pub extern "C" fn tq_free_run(buf: &mut [u8], bits: u64, input: &[u8], output: &mut [u8]) -> u32
+pub fn tq_free_run(buf: &mut [u8], bits: u64, input: &[u8], output: &mut [u8]) -> u32
     ensures value { result ≡ ran_answer buf.old bits input.now output.old }
     ensures buf_after { buf.new ≡ ran_buffer buf.old bits input.now output.old }
     ensures output_after { output.new ≡ ran_output buf.old bits input.now output.old }

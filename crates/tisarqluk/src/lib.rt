@@ -12,8 +12,7 @@ ghost use Rattle.refusal.specs.Numbers.{number_of};
 ghost use Rattle.aes.specs.Block.{answer, after};
 
 // Enciphers the first 16 bytes of the input into the first 16 of the output.
-#[unsafe(no_mangle)]
-pub extern "C" fn tq_aes128(key: &[u8], input: &[u8], output: &mut [u8]) -> u32
+pub fn tq_aes128(key: &[u8], input: &[u8], output: &mut [u8]) -> u32
     ensures value { result ≡ number_of (answer key.now input.now output.old) }
     ensures output_after { output.new ≡ after key.now input.now output.old }
 {

@@ -17,8 +17,7 @@ pub struct TqAnswer {
 }
 
 // How long a paced line's record buffer must be.
-#[unsafe(no_mangle)]
-pub extern "C" fn tq_paced_record_bytes() -> usize
+pub fn tq_paced_record_bytes() -> usize
     ensures { result ≡ 126 }
 {
     paced_record::BYTES
@@ -84,8 +83,7 @@ fn no_record() -> TqAnswer
 }
 
 // Opens a paced line in a buffer; direction 0 sends, any other receives.
-#[unsafe(no_mangle)]
-pub extern "C" fn tq_paced_open(
+pub fn tq_paced_open(
     buf: &mut [u8],
     key: &[u8],
     iv: &[u8],
@@ -105,8 +103,7 @@ pub extern "C" fn tq_paced_open(
 }
 
 // Takes D bits of the input into the paced line in a buffer, and writes the line bits that leave it.
-#[unsafe(no_mangle)]
-pub extern "C" fn tq_paced_tick(buf: &mut [u8], input: &[u8], output: &mut [u8]) -> TqAnswer
+pub fn tq_paced_tick(buf: &mut [u8], input: &[u8], output: &mut [u8]) -> TqAnswer
     ensures value { result ≡ ticked_answer buf.old input.now output.old }
     ensures buf_after { buf.new ≡ ticked_buffer buf.old input.now output.old }
     ensures output_after { output.new ≡ ticked_output buf.old input.now output.old }
@@ -121,8 +118,7 @@ pub extern "C" fn tq_paced_tick(buf: &mut [u8], input: &[u8], output: &mut [u8])
 }
 
 // Closes the paced line in a buffer, and writes the ready bits and then the waiting ones, passed.
-#[unsafe(no_mangle)]
-pub extern "C" fn tq_paced_close(buf: &mut [u8], output: &mut [u8]) -> TqAnswer
+pub fn tq_paced_close(buf: &mut [u8], output: &mut [u8]) -> TqAnswer
     ensures value { result ≡ closed_answer buf.old output.old }
     ensures buf_after { buf.new ≡ closed_buffer buf.old output.old }
     ensures output_after { output.new ≡ closed_output buf.old output.old }

@@ -1,0 +1,10 @@
+use Prim.Native.Nat.{◌-◌}
+use native.Mathlib.Omega.{arith}
+use Rattle.linefile.proofs.Appended.{Appended, none_appended, as_long, more_appended, all_appended}
+use Rattle.linefile.proofs.running.append.Given as goal
+
+abbrev pub invariant-loop-i : goal.invariant-loop-i
+invariant-loop-i l = Appended l.initial.output l.at l.s l.n l.output l.i
+
+abbrev pub decreases-loop-i : goal.decreases-loop-i
+decreases-loop-i l = l.n - l.i
