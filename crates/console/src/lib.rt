@@ -3,8 +3,8 @@
 
 ghost use Rattle.io.specs.Counts.{IsPrefixLen};
 
-use libc::{STDERR_FILENO, STDIN_FILENO, STDOUT_FILENO};
 use refusal::Answer;
+use std::io::{Print, Read};
 
 // Whether all of the input was read, or as much as was room for, and how many bytes there are.
 #[derive(Clone, Copy)]
@@ -14,26 +14,28 @@ pub struct Input {
 }
 
 // Reads until the input ends or the buffer is full, so that input without end is not read for ever; a read that fails is no end of the input.
-pub fn read_input(buf: &mut [u8]) -> Input
+pub fn read_input<R: Read>(input: &mut R, buf: &mut [u8]) -> Input
     ensures { IsPrefixLen result.bytes buf.new }
 {
     let mut done: usize = 0;
     while done < buf.len() {
-        let got = libc::read(STDIN_FILENO, &mut buf[done..]);
-        if got < 0 {
-            return Input {
-                ok: false,
-                bytes: 0,
-            };
+        match input.read(&mut buf[done..]) {
+            Ok(more) => {
+                if more == 0 {
+                    return Input {
+                        ok: true,
+                        bytes: done,
+                    };
+                }
+                done += more;
+            }
+            Err(_) => {
+                return Input {
+                    ok: false,
+                    bytes: 0,
+                };
+            }
         }
-        let more = io::count(got, &buf[done..]);
-        if more == 0 {
-            return Input {
-                ok: true,
-                bytes: done,
-            };
-        }
-        done += more;
     }
     Input {
         ok: true,
@@ -41,20 +43,22 @@ pub fn read_input(buf: &mut [u8]) -> Input
     }
 }
 
-pub fn write(text: &[u8]) -> bool {
-    io::write_all(STDOUT_FILENO, text)
+pub fn write<P: Print>(out: &P, text: &[u8]) -> bool {
+    out.write_all(text).is_ok()
 }
 
-pub fn write_number(n: u64) -> bool {
-    io::print_decimal(STDOUT_FILENO, n)
+pub fn write_number<P: Print>(out: &P, n: u64) -> bool {
+    out.print(n).is_ok()
 }
 
 // The one line of a refusal: `refused N`. For an answer that is none it writes `refused 0`, which no file is given.
-pub fn write_refused(answer: Answer) -> bool {
-    write(b"refused ") && write_number(refusal::code(answer) as u64) && write(b"\n")
+pub fn write_refused<P: Print>(out: &P, answer: Answer) -> bool {
+    write(out, b"refused ")
+        && write_number(out, refusal::code(answer) as u64)
+        && write(out, b"\n")
 }
 
 // What failed, on standard error.
-pub fn complain(text: &[u8]) {
-    io::write_all(STDERR_FILENO, text);
+pub fn complain<P: Print>(errors: &P, text: &[u8]) {
+    let _said = write(errors, text);
 }

@@ -9,8 +9,10 @@
 #![tactic(auto)]
 
 ghost use Rattle.std.specs.Prelude.{◌≤◌};
+ghost use Rattle.io.specs.Counts.{IsPrefixLen};
 
-use libc::{STDIN_FILENO, STDOUT_FILENO};
+use std::io;
+use std::io::{Input, Read};
 
 // 1 where the case agrees, and 0 where it does not.
 fn agrees(case: &[u8]) -> u64
@@ -38,13 +40,29 @@ fn agreeing(cases: &[u8]) -> u64 {
     same
 }
 
-fn main() {
+// Reads until buf is full, the input ends or a read fails, and gives how many bytes it put at the start of buf.
+fn read_full<R: Read>(input: &mut R, buf: &mut [u8]) -> usize
+    ensures { IsPrefixLen result buf.new }
+{
+    let mut done: usize = 0;
+    while done < buf.len() {
+        match input.read(&mut buf[done..]) {
+            Ok(more) => {
+                if more == 0 {
+                    return done;
+                }
+                done += more;
+            }
+            Err(_) => return done,
+        }
+    }
+    done
+}
+
+fn main(rt: HostRuntime) -> io::Result<()> {
     let mut buf = [0u8; 16384];
-    let n = io::read_full(STDIN_FILENO, &mut buf);
+    let n = read_full(&mut rt.reader(), &mut buf);
     let same = agreeing(&buf[..n]);
-    io::write_all(STDOUT_FILENO, b"vectors ");
-    io::print_decimal(STDOUT_FILENO, (n / 48) as u64);
-    io::write_all(STDOUT_FILENO, b" same ");
-    io::print_decimal(STDOUT_FILENO, same);
-    io::write_all(STDOUT_FILENO, b"\n");
+    let all = n / 48;
+    println!(rt; "vectors {all} same {same}")
 }
