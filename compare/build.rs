@@ -15,7 +15,7 @@ fn main() {
     println!("cargo:rerun-if-changed={}", archive.display());
     if !archive.is_file() {
         eprintln!("There is no {}.", archive.display());
-        eprintln!("Make it with `rt staticlib tisarqluk` at the root of the repository,");
+        eprintln!("Make it with `./build lib` at the root of the repository,");
         eprintln!("or name its folder in the environment variable TISARQLUK_LIB_DIR.");
         std::process::exit(1);
     }

@@ -19,8 +19,8 @@ fn archive_in(folder: &Path) -> PathBuf {
     folder.join("libtisarqluk.a")
 }
 
-/// The folder that the environment names, else the repository's own, where `rt`
-/// makes the archive if it is not there yet.
+/// The folder that the environment names, else the repository's own, where
+/// `./build` makes the archive if it is not there yet.
 fn find_folder() -> Result<PathBuf, String> {
     if let Some(folder) = std::env::var_os("TISARQLUK_LIB_DIR").map(PathBuf::from) {
         return if archive_in(&folder).is_file() {
@@ -40,22 +40,22 @@ fn find_folder() -> Result<PathBuf, String> {
     if archive_in(&folder).is_file() {
         Ok(folder)
     } else {
-        Err(format!("`rt staticlib tisarqluk` made no {}.", archive_in(&folder).display()))
+        Err(format!("`./build lib` made no {}.", archive_in(&folder).display()))
     }
 }
 
 fn make_archive(root: &Path) -> Result<(), String> {
     let what = "libtisarqluk.a is missing: TISARQLUK_LIB_DIR is not set, target/staticlib of the \
                 repository does not have it,";
-    match Command::new("rt").args(["staticlib", "tisarqluk"]).current_dir(root).output() {
+    match Command::new(root.join("build")).arg("lib").current_dir(root).output() {
         Ok(made) if made.status.success() => Ok(()),
         Ok(made) => Err(format!(
-            "{what} and `rt staticlib tisarqluk` failed:\n{}{}",
+            "{what} and `./build lib` failed:\n{}{}",
             String::from_utf8_lossy(&made.stdout),
             String::from_utf8_lossy(&made.stderr)
         )),
         Err(error) => {
-            Err(format!("{what} and the toolchain's `rt`, which makes it, cannot be run: {error}"))
+            Err(format!("{what} and `./build`, which makes it, cannot be run: {error}"))
         }
     }
 }

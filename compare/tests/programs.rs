@@ -23,7 +23,7 @@ impl Built {
         for program in ["linerun", "syncs"] {
             assert!(
                 folder.join(program).is_file(),
-                "FAIL: there is no {}. Make it with `rt check {program}` at the root of the \
+                "FAIL: there is no {}. Make it with `./build bin` at the root of the \
                  repository, or name its folder in the environment variable TISARQLUK_BIN_DIR.",
                 folder.join(program).display()
             );

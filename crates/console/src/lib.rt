@@ -53,9 +53,7 @@ pub fn write_number<P: Print>(out: &P, n: u64) -> bool {
 
 // The one line of a refusal: `refused N`. For an answer that is none it writes `refused 0`, which no file is given.
 pub fn write_refused<P: Print>(out: &P, answer: Answer) -> bool {
-    write(out, b"refused ")
-        && write_number(out, refusal::code(answer) as u64)
-        && write(out, b"\n")
+    write(out, b"refused ") && write_number(out, refusal::code(answer) as u64) && write(out, b"\n")
 }
 
 // What failed, on standard error.

@@ -19,7 +19,6 @@ use Rattle.pace.proofs.Kept.{ticked_is}
 use Rattle.line.specs.View.{rule_of, view, holding}
 use Rattle.paced.specs.declared.record.Paced.{Paced}
 use Rattle.paced.specs.declared.answer.Ticked.{Ticked}
-use Rattle.paced.specs.declared.answer.Moved.{Moved}
 use Rattle.paced.specs.declared.ticking.Move.{Move}
 use Rattle.paced.specs.View.{viewed, keeping}
 use Rattle.paced.specs.Ticking.{leaving_from}

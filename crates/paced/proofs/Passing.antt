@@ -23,7 +23,6 @@ use Rattle.line.proofs.Running.{small_outs}
 use Rattle.line.proofs.Passing.{opens as line_opens}
 use Rattle.paced.specs.declared.record.Paced.{Paced}
 use Rattle.paced.specs.declared.answer.Ticked.{Ticked}
-use Rattle.paced.specs.declared.answer.Moved.{Moved}
 use Rattle.paced.specs.Answers.{outcome, bits_in}
 use Rattle.paced.specs.View.{viewed, keeping, shut}
 use Rattle.paced.specs.Tests.{faulty}

@@ -16,7 +16,6 @@ use Rattle.aes.specs.Block.{tried_of, answer, after}
 use Rattle.aes.specs.Inner.{written_of, front_of}
 use Rattle.aes.proofs.Lists.{many_take}
 use Rattle.aes.proofs.Schedule.{aes_length}
-use borrow.Author.Rules.{rules}
 use Rattle.aes.proofs.block.Goals as goal
 
 at_most : (a : Answer) → written_of a ≤ 16
@@ -71,4 +70,4 @@ put-requires c =
 
 pub returns : goal.returns
 returns c =
-    let a = c.args in record { value = c.tried-a.ensures; output_after = ended a.key.now a.input.now a.output.now _ _ _ _ _ _ c.tried-a.ensures c.written-n.ensures c.front.ensures c.front-2.ensures c.encipher-c.ensures c.put.ensures; }
+    let a = c.args in record { value = c.tried-a.ensures; output_after = ended a.key.now a.input.now a.output.now _ _ _ _ _ _ c.tried-a.ensures c.written-n.ensures c.front.ensures c.front-2.ensures c.encipher-c.ensures c.put.ensures }

@@ -6,7 +6,6 @@ use Rattle.aes.specs.State.{State}
 use Rattle.aes.specs.Cipher.{aes128}
 use Rattle.aes.specs.Schedule.{schedule, cipher_by}
 use Rattle.aes.proofs.Schedule.{by_schedule}
-use borrow.Author.Rules.{rules}
 use Rattle.aes.proofs.encipher.Goals as goal
 
 enciphered : (key block r : List ℕ) (ks : List State) → ks ≡ schedule key → r ≡ cipher_by ks block → r ≡ aes128 key block

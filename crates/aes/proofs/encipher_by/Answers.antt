@@ -1,9 +1,6 @@
 -- `aes::encipher_by` meets its contract: after i turns the state is that after i rounds. Assumes nothing.
-use Prim.Native.Nat.{◌-◌, ◌≤◌}
 use mathlib.Core.Path.{◌≡◌, refl}
-use mathlib.Core.List.{map}
 use native.Mathlib.Omega.{arith}
-use Rattle.aes.specs.State.{columns}
 use Rattle.aes.specs.Cipher.{rounds}
 use Rattle.aes.proofs.SBoxTable.{s_box_at}
 use Rattle.aes.proofs.Schedule.{rounded, ciphered}

@@ -1,12 +1,8 @@
 use Prim.Native.Nat.{◌-◌, ◌≤◌}
-use mathlib.Core.Path.{◌≡◌, refl}
+use mathlib.Core.Path.{◌≡◌}
 use mathlib.Core.List.{map}
-use native.Mathlib.Omega.{arith}
 use Rattle.aes.specs.State.{columns}
 use Rattle.aes.specs.Cipher.{rounds}
-use Rattle.aes.proofs.SBoxTable.{s_box_at}
-use Rattle.aes.proofs.Schedule.{rounded, ciphered}
-use borrow.Author.Rules.{rules}
 use Rattle.aes.proofs.encipher_by.Given as goal
 
 abbrev pub invariant-loop-i : goal.invariant-loop-i

@@ -1,14 +1,12 @@
 -- `aes::expand` meets its contract: after i turns the list's first i + 1 entries are round keys, and w and rc are those of round i.
 -- Assumes nothing.
-use Prim.Native.Nat.{◌+◌, ◌-◌, ◌≤◌}
 use mathlib.Core.Path.{◌≡◌, refl, ◌∙◌}
-use mathlib.Core.List.{◌++◌}
 use native.Mathlib.Omega.{arith}
 use native.Mathlib.Numerals.{add-one}
-use lib.ListN.{length, take, drop, length-set}
+use lib.ListN.{length-set}
 use Rattle.aes.specs.KeyExpansion.{round_key, rcon}
 use Rattle.aes.proofs.SBoxTable.{s_box_at}
-use Rattle.aes.proofs.Schedule.{laid, laid_first, laid_more, laid_all, next_key_is}
+use Rattle.aes.proofs.Schedule.{laid_first, laid_more, laid_all, next_key_is}
 use borrow.Author.Rules.{rules}
 use Rattle.aes.proofs.expand.Goals as goal
 

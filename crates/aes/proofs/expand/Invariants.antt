@@ -1,13 +1,9 @@
 use Prim.Native.Nat.{◌+◌, ◌-◌, ◌≤◌}
-use mathlib.Core.Path.{◌≡◌, refl, ◌∙◌}
+use mathlib.Core.Path.{◌≡◌}
 use mathlib.Core.List.{◌++◌}
-use native.Mathlib.Omega.{arith}
-use native.Mathlib.Numerals.{add-one}
-use lib.ListN.{length, take, drop, length-set}
+use lib.ListN.{length, take, drop}
 use Rattle.aes.specs.KeyExpansion.{round_key, rcon}
-use Rattle.aes.proofs.SBoxTable.{s_box_at}
-use Rattle.aes.proofs.Schedule.{laid, laid_first, laid_more, laid_all, next_key_is}
-use borrow.Author.Rules.{rules}
+use Rattle.aes.proofs.Schedule.{laid}
 use Rattle.aes.proofs.expand.Given as goal
 
 abbrev pub invariant-loop-i : goal.invariant-loop-i

@@ -6,7 +6,6 @@ use native.Mathlib.Omega.{arith}
 use Rattle.bits.specs.Bits.{laid}
 use Rattle.bits.proofs.Laid.{laid_none}
 use Rattle.bits.proofs.Ends.{clear_byte}
-use borrow.Author.Rules.{rules}
 use Rattle.bits.proofs.clear.Goals as goal
 
 pub returns-then-e-gt0 : goal.returns-then-e-gt0

@@ -1,7 +1,6 @@
 -- `bits::draw` meets its contract: octets poured into the whole of the buffer. Assumes nothing.
 use mathlib.Core.Path.{refl}
 use Rattle.bits.proofs.Ends.{draw_is}
-use borrow.Author.Rules.{rules}
 use Rattle.bits.proofs.draw.Goals as goal
 
 pub returns : goal.returns

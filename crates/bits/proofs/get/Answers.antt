@@ -2,7 +2,6 @@
 use mathlib.Core.Path.{sym, ap, ◌∙◌}
 use Prim.Native.Nat.{ℕ, ◌-◌, ◌/◌, ◌%◌, ◌^◌}
 use Rattle.bits.proofs.Packed.{bit_at}
-use borrow.Author.Rules.{rules}
 use Rattle.bits.proofs.get.Goals as goal
 
 pub returns : goal.returns

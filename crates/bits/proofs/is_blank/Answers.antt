@@ -1,12 +1,10 @@
 -- The bits from the next byte on are blank just where those from bit `from` on are, byte after byte.
 use mathlib.Core.Path.{◌≡◌, ap, ◌∙◌}
 use mathlib.Core.List.{List}
-use Prim.Native.Nat.{ℕ, ◌-◌, ◌*◌, ◌%◌}
+use Prim.Native.Nat.{ℕ, ◌-◌, ◌%◌}
 use native.Mathlib.Omega.{arith}
-use lib.ListN.{length, get_or, drop}
-use borrow.Author.Rules.{rules}
-use Rattle.bits.specs.Bits.{bits_of, byte_of, pack, part}
-use Rattle.bits.specs.Blank.{blank}
+use lib.ListN.{get_or}
+use Rattle.bits.specs.Bits.{byte_of, pack, part}
 use Rattle.bits.proofs.Blank.{first_blank, first_not, next_blank, next_not, end_blank}
 use Rattle.bits.proofs.is_blank.Goals as goal
 

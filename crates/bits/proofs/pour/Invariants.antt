@@ -1,9 +1,7 @@
-use mathlib.Core.Path.{◌≡◌, refl, sym, ◌∙◌}
+use mathlib.Core.Path.{◌≡◌}
 use Prim.Native.Nat.{◌+◌, ◌-◌, ◌≤◌}
-use native.Mathlib.Omega.{arith}
-use lib.ListN.{length, drop, length-set}
-use borrow.Author.Rules.{rules}
-use Rattle.bits.proofs.Octets.{coming, filled, fill_octet, fill_done}
+use lib.ListN.{length, drop}
+use Rattle.bits.proofs.Octets.{coming, filled}
 use Rattle.bits.proofs.pour.Given as goal
 
 abbrev pub invariant-loop-i : goal.invariant-loop-i

@@ -1,6 +1,5 @@
 -- `bits::read` meets its contract: octets poured into zeros, and those past the bits asked for cleared. Assumes nothing.
 use Rattle.bits.proofs.Ends.{read_is}
-use borrow.Author.Rules.{rules}
 use Rattle.bits.proofs.read.Goals as goal
 
 pub returns : goal.returns

@@ -5,7 +5,6 @@ use native.Mathlib.Omega.{arith}
 use Rattle.bits.proofs.Arrays.{array_length}
 use Rattle.bits.proofs.Laid.{wrote_long, wrote_past}
 use Rattle.bits.proofs.Ends.{write_is}
-use borrow.Author.Rules.{rules}
 use Rattle.bits.proofs.write.Goals as goal
 
 pub returns-then-end-d : goal.returns-then-end-d

@@ -1,5 +1,4 @@
 -- The sum of the four bits read, modulo 2.
-use borrow.Author.Rules.{rules}
 use native.Mathlib.Omega.{arith}
 use Rattle.counter.specs.Counter.{feedback}
 use Rattle.counter.proofs.feedback.Goals as goal

@@ -3,7 +3,6 @@ use mathlib.Core.Path.{sym, ap, ◌∙◌}
 use mathlib.Core.List.{List}
 use Prim.Native.Nat.{ℕ}
 use native.Mathlib.Omega.{arith}
-use borrow.Author.Rules.{rules}
 use Rattle.counter.proofs.Laws.{advanced_in_block, advanced_at_end}
 use Rattle.counter.proofs.onward.Goals as goal
 

@@ -1,7 +1,6 @@
 -- `bits::get` reads the bit, and a bit of bytes is 0 or 1.
 use mathlib.Core.Path.{sym, subst}
 use Prim.Native.Nat.{ℕ, ◌<◌, ◌-◌}
-use borrow.Author.Rules.{rules}
 use Rattle.bits.proofs.Packed.{small_bits}
 use Rattle.counter.proofs.r.Goals as goal
 

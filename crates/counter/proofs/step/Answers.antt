@@ -2,7 +2,6 @@
 use mathlib.Core.Path.{◌∙◌, ap}
 use mathlib.Core.List.{◌∷◌}
 use Prim.Native.Nat.{ℕ, ◌*◌}
-use borrow.Author.Rules.{rules}
 use Rattle.bits.specs.Bits.{wrote}
 use Rattle.bits.proofs.Arrays.{array_length}
 use Rattle.bits.proofs.Lists.{zeros}

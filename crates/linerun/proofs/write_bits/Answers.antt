@@ -1,7 +1,6 @@
 -- The bytes written are there.
 use native.Mathlib.Omega.{arith}
 use lib.ListN.{length-take}
-use borrow.Author.Rules.{rules}
 use Rattle.linerun.proofs.write_bits.Goals as goal
 
 pub slice_bounds-write-end : goal.slice_bounds-write-end

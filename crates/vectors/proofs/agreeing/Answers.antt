@@ -1,6 +1,4 @@
 -- `vectors::agreeing` reads inside its slice and ends. Assumes nothing.
-use Prim.Native.Nat.{◌≤◌, ◌-◌}
-use lib.ListN.{length}
 use borrow.Author.Rules.{rules}
 use Rattle.vectors.proofs.agreeing.Goals as goal
 

@@ -4,7 +4,6 @@ use mathlib.Core.List.{List}
 use Prim.Native.Nat.{ℕ}
 use Rattle.aes.specs.State.{State, to_state, columns}
 use Rattle.aes.specs.State.{to_words}
-use borrow.Author.Rules.{rules}
 use Rattle.aes.proofs.array.state.Goals as goal
 
 arranged : (b : List ℕ) (w r : State) → w ≡ to_words b → r ≡ columns w → r ≡ to_state b

@@ -1,5 +1,4 @@
 -- `aes::array::words` meets its contract. Assumes nothing.
-use borrow.Author.Rules.{rules}
 use mathlib.Core.Path.{refl}
 use Rattle.aes.specs.State.{to_words}
 use Rattle.aes.proofs.array.words.Goals as goal

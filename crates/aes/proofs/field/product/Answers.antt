@@ -2,7 +2,6 @@
 use Prim.Native.Nat.{ℕ, ◌/◌}
 use mathlib.Core.Path.{◌≡◌}
 use Rattle.aes.specs.Field.{◌⊕◌, xtime, low, product, ◌•◌}
-use borrow.Author.Rules.{rules}
 use Rattle.aes.proofs.field.product.Goals as goal
 
 -- the terms l0 to l7, of the bits of a and of b times x to the 0 .. 7

@@ -3,7 +3,6 @@ use mathlib.Core.Path.{◌≡◌}
 use Prim.Native.Nat.{ℕ, ◌*◌, ◌/◌, ◌%◌, ◌<◌, ◌≤◌}
 use native.Mathlib.Decide.{dec_lt}
 use native.Mathlib.Omega.{arith}
-use borrow.Author.Rules.{rules}
 use borrow.Author.Tests.{lt-ltb, le-ltb}
 use lib.Bits.{bit_xor, xor_zero_r}
 use Rattle.aes.specs.Field.{xtime}

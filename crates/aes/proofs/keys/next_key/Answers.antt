@@ -5,7 +5,6 @@ use mathlib.Core.List.{List, [], ◌∷◌}
 use lib.ListN.{get_or}
 use Rattle.aes.specs.State.{Word}
 use Rattle.aes.specs.KeyExpansion.{xor_word, sub_word, rot_word, next_key}
-use borrow.Author.Rules.{rules}
 use Rattle.aes.proofs.keys.next_key.Goals as goal
 
 made : (w : List Word) (rc : ℕ) (r s temp w4 w5 w6 w7 : Word) → r ≡ rot_word (get_or w 3 []) → s ≡ sub_word r → temp ≡ xor_word s (rc ∷ 0 ∷ 0 ∷ 0 ∷ [])

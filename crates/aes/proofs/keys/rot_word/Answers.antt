@@ -1,7 +1,6 @@
 -- `aes::keys::rot_word` meets its contract. Assumes nothing.
 use mathlib.Core.Path.{refl}
 use Rattle.aes.specs.KeyExpansion.{rot_word}
-use borrow.Author.Rules.{rules}
 use Rattle.aes.proofs.keys.rot_word.Goals as goal
 
 pub returns : goal.returns

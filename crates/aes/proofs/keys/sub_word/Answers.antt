@@ -1,7 +1,6 @@
 -- `aes::keys::sub_word` meets its contract. Assumes nothing.
 use Rattle.aes.specs.KeyExpansion.{sub_word}
 use Rattle.aes.proofs.Lists.{four_equal}
-use borrow.Author.Rules.{rules}
 use Rattle.aes.proofs.keys.sub_word.Goals as goal
 
 pub returns : goal.returns

@@ -1,5 +1,4 @@
 -- `aes::keys::xor_word` meets its contract. Assumes nothing.
-use borrow.Author.Rules.{rules}
 use mathlib.Core.Path.{refl}
 use Rattle.aes.specs.KeyExpansion.{xor_word}
 use Rattle.aes.proofs.keys.xor_word.Goals as goal

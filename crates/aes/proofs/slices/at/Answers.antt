@@ -1,6 +1,5 @@
 -- `aes::slices::at` meets its contract: past the end the list has its default. Assumes nothing.
 use mathlib.Core.Path.{sym}
-use borrow.Author.Rules.{rules}
 use lib.ListN.{get_or-eq_default}
 use Rattle.aes.proofs.slices.at.Goals as goal
 

@@ -1,10 +1,10 @@
 -- `aes::slices::front` meets its contract: after i turns the first i bytes are those of the slice. Assumes nothing.
-use Prim.Native.Nat.{ℕ, ◌+◌, ◌-◌, ◌<◌, ◌≤◌}
+use Prim.Native.Nat.{ℕ, ◌+◌, ◌<◌}
 use mathlib.Core.Path.{◌≡◌, refl, ap, sym, ◌∙◌}
 use mathlib.Core.List.{◌++◌, List}
 use native.Mathlib.Nat.{zero-add}
 use native.Mathlib.Omega.{arith}
-use lib.ListN.{length, get_or, set, take, drop, replicate, length-set}
+use lib.ListN.{get_or, set, take, drop, replicate, length-set}
 use Rattle.aes.specs.Inner.{front_of}
 use Rattle.aes.proofs.Lists.{many_at, front_more}
 use borrow.Author.Rules.{rules}

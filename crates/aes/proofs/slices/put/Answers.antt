@@ -1,9 +1,7 @@
 -- `aes::slices::put` meets its contract: after i turns the first i bytes are written. Assumes nothing.
-use Prim.Native.Nat.{◌-◌, ◌≤◌}
 use mathlib.Core.Path.{◌≡◌, refl}
-use mathlib.Core.List.{◌++◌}
 use native.Mathlib.Omega.{arith}
-use lib.ListN.{length, take, drop, length-set}
+use lib.ListN.{length-set}
 use Rattle.aes.proofs.Lists.{front_more}
 use borrow.Author.Rules.{rules}
 use Rattle.aes.proofs.slices.put.Goals as goal

@@ -1,10 +1,7 @@
 use Prim.Native.Nat.{◌-◌, ◌≤◌}
-use mathlib.Core.Path.{◌≡◌, refl}
+use mathlib.Core.Path.{◌≡◌}
 use mathlib.Core.List.{◌++◌}
-use native.Mathlib.Omega.{arith}
-use lib.ListN.{length, take, drop, length-set}
-use Rattle.aes.proofs.Lists.{front_more}
-use borrow.Author.Rules.{rules}
+use lib.ListN.{length, take, drop}
 use Rattle.aes.proofs.slices.put.Given as goal
 
 abbrev pub invariant-loop-i : goal.invariant-loop-i

@@ -6,7 +6,6 @@ use lib.ListN.{get_or}
 use Rattle.aes.specs.State.{State, Word, columns}
 use Rattle.aes.specs.Steps.{add_round_key}
 use Rattle.aes.specs.KeyExpansion.{xor_word}
-use borrow.Author.Rules.{rules}
 use Rattle.aes.proofs.steps.add_round_key.Goals as goal
 
 added : (s k : State) (a b c d : Word)

@@ -1,7 +1,6 @@
 -- `aes::steps::mix_column` meets its contract: each byte is a row of the matrix by the column. Assumes nothing.
 use Rattle.aes.specs.Steps.{row_by, mix_column}
 use Rattle.aes.proofs.Lists.{four_equal}
-use borrow.Author.Rules.{rules}
 use Rattle.aes.proofs.steps.mix_column.Goals as goal
 
 pub returns : goal.returns

@@ -4,7 +4,6 @@ use mathlib.Core.List.{[], ◌∷◌}
 use lib.ListN.{get_or}
 use Rattle.aes.specs.State.{State, Word, columns}
 use Rattle.aes.specs.Steps.{mix_column, mix_columns}
-use borrow.Author.Rules.{rules}
 use Rattle.aes.proofs.steps.mix_columns.Goals as goal
 
 mixed : (s t r : State) (a b c d : Word) → t ≡ columns s

@@ -1,7 +1,6 @@
 -- `aes::steps::round` meets its contract: it is the four steps in order. Assumes nothing.
 use mathlib.Core.Path.{◌∙◌}
 use Rattle.aes.specs.Cipher.{round_of}
-use borrow.Author.Rules.{rules}
 use Rattle.aes.proofs.steps.round.Goals as goal
 
 pub returns : goal.returns

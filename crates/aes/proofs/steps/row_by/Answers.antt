@@ -3,7 +3,6 @@ use mathlib.Core.Path.{◌≡◌}
 use Prim.Native.Nat.{ℕ}
 use Rattle.aes.specs.Field.{◌⊕◌}
 use Rattle.aes.specs.Steps.{row_by}
-use borrow.Author.Rules.{rules}
 use Rattle.aes.proofs.steps.row_by.Goals as goal
 
 sum : {p q r s a b c d : ℕ} → p ≡ a → q ≡ b → r ≡ c → s ≡ d → p ⊕ q ⊕ r ⊕ s ≡ a ⊕ b ⊕ c ⊕ d

@@ -1,7 +1,6 @@
 -- `aes::steps::shift_rows` meets its contract. Assumes nothing.
 use mathlib.Core.Path.{refl}
 use Rattle.aes.specs.Steps.{shift_rows}
-use borrow.Author.Rules.{rules}
 use Rattle.aes.proofs.steps.shift_rows.Goals as goal
 
 pub returns : goal.returns

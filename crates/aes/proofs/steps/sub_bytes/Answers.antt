@@ -2,7 +2,6 @@
 use Rattle.aes.specs.KeyExpansion.{sub_word}
 use Rattle.aes.specs.Steps.{sub_bytes}
 use Rattle.aes.proofs.Lists.{four_equal}
-use borrow.Author.Rules.{rules}
 use Rattle.aes.proofs.steps.sub_bytes.Goals as goal
 
 pub returns : goal.returns

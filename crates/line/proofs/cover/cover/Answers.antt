@@ -5,7 +5,6 @@ use mathlib.Core.List.{List}
 use Prim.Native.Nat.{ℕ, ◌+◌, ◌*◌, ◌≤◌}
 use native.Mathlib.Omega.{arith}
 use lib.ListN.{length, take}
-use borrow.Author.Rules.{rules}
 use Rattle.mode.specs.Words.{plus}
 use Rattle.mode.proofs.Streams.{take_plus}
 use Rattle.bits.specs.Bits.{bits_of, pack, part}

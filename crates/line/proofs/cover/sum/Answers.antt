@@ -1,10 +1,8 @@
 -- The loop sums byte after byte.
 use mathlib.Core.Path.{refl}
 use native.Mathlib.Omega.{arith}
-use Prim.Native.Nat.{◌-◌}
-use borrow.Author.Rules.{rules}
 use Rattle.bits.proofs.Arrays.{array_length}
-use Rattle.line.proofs.Sums.{Summed, summed_on, summed}
+use Rattle.line.proofs.Sums.{summed_on, summed}
 use Rattle.line.proofs.cover.sum.Goals as goal
 
 pub loop-i-init : goal.loop-i-init

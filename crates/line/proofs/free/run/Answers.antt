@@ -5,7 +5,6 @@ use Prim.Native.Nat.{◌+◌, ◌/◌}
 use native.Mathlib.Omega.{arith}
 use lib.Dec.{ltb}
 use lib.ListN.{length}
-use borrow.Author.Rules.{rules}
 use borrow.Author.Tests.{lt-ltb, le-ltb}
 use Rattle.bits.proofs.Arrays.{array_length, array_bytes}
 use Rattle.bits.proofs.Laid.{laid_nothing}

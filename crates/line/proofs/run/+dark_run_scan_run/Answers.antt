@@ -1,10 +1,10 @@
 -- A stretch on, `Along` holds again; the other run then goes on from there to the end.
-use Rattle.std.proofs.Common.{◌≡◌, ◌<◌, ℕ, ◌+◌, ◌-◌, List, refl, ◌∙◌, arith}
+use Rattle.std.proofs.Common.{◌<◌, ℕ, ◌+◌, ◌-◌, List, refl, arith}
 use native.Mathlib.Nat.{pos_of_ne-zero}
 use Rattle.line.specs.declared.stretch.Going.{Going}
 use Rattle.line.specs.declared.stretch.Stretch.{Stretch}
 use Rattle.line.specs.Inner.{Stretched}
-use Rattle.line.proofs.Running.{Along, start, ahead, stop, on, same, room_on}
+use Rattle.line.proofs.Running.{Along, start, ahead, stop, on, room_on}
 use Rattle.line.proofs.run.+dark_run_scan_run.Goals as goal
 
 next : (s d : List ℕ) (f n : ℕ) (g : Going) (end : ℕ) (e : List ℕ) (h : Going) (i : ℕ) (t : Stretch) (e' : List ℕ) → Along s d f n g end e h i → i < end
@@ -24,14 +24,13 @@ dark_run-dark_stretch-t-requires t c = record {
 pub dark_run-overflow_add-i : goal.dark_run-overflow_add-i
 dark_run-overflow_add-i t c =
     let a : Along c.args.input.now c.args.output.now c.args.from c.args.n c.args.g (c.args.from + c.args.n) c.dark_stretch-t.new.output c.dark_stretch-t.result.going (c.loop-i.i + c.dark_stretch-t.result.done) =
-        next _ _ _ _ _ _ _ _ _ _ _ c.loop-i.invariant.0 c.loop-i-test.true c.dark_stretch-t.ensures in
+    next _ _ _ _ _ _ _ _ _ _ _ c.loop-i.invariant.0 c.loop-i-test.true c.dark_stretch-t.ensures in
     omega (arith, a.high, a.room.few, a.whole)
 
 pub dark_run-scan_run-requires : goal.dark_run-scan_run-requires
 dark_run-scan_run-requires t c =
     let a : Along c.args.input.now c.args.output.now c.args.from c.args.n c.args.g (c.args.from + c.args.n) c.dark_stretch-t.new.output c.dark_stretch-t.result.going (c.loop-i.i + c.dark_stretch-t.result.done) =
-        next _ _ _ _ _ _ _ _ _ _ _ c.loop-i.invariant.0 c.loop-i-test.true c.dark_stretch-t.ensures in
-    (
+    next _ _ _ _ _ _ _ _ _ _ _ c.loop-i.invariant.0 c.loop-i-test.true c.dark_stretch-t.ensures in (
       omega (arith, c.decreases, c.loop-i-test.true, c.loop-i.invariant.0.low, c.dark_stretch-t.ensures.some, c.dark_stretch-t.ensures.most),
       (a.ran.ready, (room_on _ _ _ _ _ _ _ _ _ a, c.if-line-eq0.true)),
     )
@@ -39,13 +38,13 @@ dark_run-scan_run-requires t c =
 pub dark_run-returns-then-line-eq0 : goal.dark_run-returns-then-line-eq0
 dark_run-returns-then-line-eq0 t c =
     let a : Along c.args.input.now c.args.output.now c.args.from c.args.n c.args.g (c.args.from + c.args.n) c.dark_stretch-t.new.output c.dark_stretch-t.result.going (c.loop-i.i + c.dark_stretch-t.result.done) =
-        next _ _ _ _ _ _ _ _ _ _ _ c.loop-i.invariant.0 c.loop-i-test.true c.dark_stretch-t.ensures in
+    next _ _ _ _ _ _ _ _ _ _ _ c.loop-i.invariant.0 c.loop-i-test.true c.dark_stretch-t.ensures in
     on _ _ _ _ _ _ _ _ _ a _ _ c.scan_run.ensures
 
 pub dark_run-loop-i-preserved : goal.dark_run-loop-i-preserved
 dark_run-loop-i-preserved t c =
     let a : Along c.args.input.now c.args.output.now c.args.from c.args.n c.args.g (c.args.from + c.args.n) c.dark_stretch-t.new.output c.dark_stretch-t.result.going (c.loop-i.i + c.dark_stretch-t.result.done) =
-        next _ _ _ _ _ _ _ _ _ _ _ c.loop-i.invariant.0 c.loop-i-test.true c.dark_stretch-t.ensures in
+    next _ _ _ _ _ _ _ _ _ _ _ c.loop-i.invariant.0 c.loop-i-test.true c.dark_stretch-t.ensures in
     (a, pos_of_ne-zero c.if-line-eq0.false)
 
 pub dark_run-returns : goal.dark_run-returns
@@ -64,14 +63,13 @@ scan_run-scan_stretch-t-requires t c = record {
 pub scan_run-overflow_add-i : goal.scan_run-overflow_add-i
 scan_run-overflow_add-i t c =
     let a : Along c.args.input.now c.args.output.now c.args.from c.args.n c.args.g (c.args.from + c.args.n) c.scan_stretch-t.new.output c.scan_stretch-t.result.going (c.loop-i.i + c.scan_stretch-t.result.done) =
-        next _ _ _ _ _ _ _ _ _ _ _ c.loop-i.invariant.0 c.loop-i-test.true c.scan_stretch-t.ensures in
+    next _ _ _ _ _ _ _ _ _ _ _ c.loop-i.invariant.0 c.loop-i-test.true c.scan_stretch-t.ensures in
     omega (arith, a.high, a.room.few, a.whole)
 
 pub scan_run-dark_run-requires : goal.scan_run-dark_run-requires
 scan_run-dark_run-requires t c =
     let a : Along c.args.input.now c.args.output.now c.args.from c.args.n c.args.g (c.args.from + c.args.n) c.scan_stretch-t.new.output c.scan_stretch-t.result.going (c.loop-i.i + c.scan_stretch-t.result.done) =
-        next _ _ _ _ _ _ _ _ _ _ _ c.loop-i.invariant.0 c.loop-i-test.true c.scan_stretch-t.ensures in
-    (
+    next _ _ _ _ _ _ _ _ _ _ _ c.loop-i.invariant.0 c.loop-i-test.true c.scan_stretch-t.ensures in (
       omega (arith, c.decreases, c.loop-i-test.true, c.loop-i.invariant.0.low, c.scan_stretch-t.ensures.some, c.scan_stretch-t.ensures.most),
       (a.ran.ready, (room_on _ _ _ _ _ _ _ _ _ a, pos_of_ne-zero c.if-line-ne0.true)),
     )
@@ -79,13 +77,13 @@ scan_run-dark_run-requires t c =
 pub scan_run-returns-then-line-ne0 : goal.scan_run-returns-then-line-ne0
 scan_run-returns-then-line-ne0 t c =
     let a : Along c.args.input.now c.args.output.now c.args.from c.args.n c.args.g (c.args.from + c.args.n) c.scan_stretch-t.new.output c.scan_stretch-t.result.going (c.loop-i.i + c.scan_stretch-t.result.done) =
-        next _ _ _ _ _ _ _ _ _ _ _ c.loop-i.invariant.0 c.loop-i-test.true c.scan_stretch-t.ensures in
+    next _ _ _ _ _ _ _ _ _ _ _ c.loop-i.invariant.0 c.loop-i-test.true c.scan_stretch-t.ensures in
     on _ _ _ _ _ _ _ _ _ a _ _ c.dark_run.ensures
 
 pub scan_run-loop-i-preserved : goal.scan_run-loop-i-preserved
 scan_run-loop-i-preserved t c =
     let a : Along c.args.input.now c.args.output.now c.args.from c.args.n c.args.g (c.args.from + c.args.n) c.scan_stretch-t.new.output c.scan_stretch-t.result.going (c.loop-i.i + c.scan_stretch-t.result.done) =
-        next _ _ _ _ _ _ _ _ _ _ _ c.loop-i.invariant.0 c.loop-i-test.true c.scan_stretch-t.ensures in
+    next _ _ _ _ _ _ _ _ _ _ _ c.loop-i.invariant.0 c.loop-i-test.true c.scan_stretch-t.ensures in
     (a, c.if-line-ne0.false)
 
 pub scan_run-returns : goal.scan_run-returns

@@ -1,6 +1,5 @@
 -- Each state has its run.
 use native.Mathlib.Nat.{pos_of_ne-zero}
-use borrow.Author.Rules.{rules}
 use Rattle.line.proofs.run.piece.Goals as goal
 
 pub dark_run-requires : goal.dark_run-requires

@@ -1,9 +1,8 @@
 -- The pieces keep `Along`, with the block made at the start.
 use mathlib.Core.Path.{◌≡◌}
-use Prim.Native.Nat.{◌+◌, ◌-◌, ◌≤◌, min}
+use Prim.Native.Nat.{◌-◌, min}
 use native.Mathlib.Omega.{arith}
-use borrow.Author.Rules.{rules}
-use Rattle.line.proofs.Running.{Along, start, ahead, stop, same, room_on, room_less}
+use Rattle.line.proofs.Running.{start, ahead, stop, same, room_on, room_less}
 use Rattle.line.proofs.run.whole.Goals as goal
 
 pub loop-at-init : goal.loop-at-init
@@ -14,9 +13,9 @@ pub piece-next-requires : goal.piece-next-requires
 piece-next-requires c =
     let l = c.loop-at in
     let k_is : c.least-k.result ≡ min (c.args.n - l.at) 4096 = c.least-k.ensures in record {
-  ready = l.invariant.ran.ready;
-  room = room_less _ _ l.at (c.args.n - l.at) c.least-k.result (omega (arith, k_is)) (room_on _ _ _ _ _ _ _ _ _ l.invariant);
-}
+      ready = l.invariant.ran.ready;
+      room = room_less _ _ l.at (c.args.n - l.at) c.least-k.result (omega (arith, k_is)) (room_on _ _ _ _ _ _ _ _ _ l.invariant);
+    }
 
 pub overflow_add-at : goal.overflow_add-at
 overflow_add-at c =

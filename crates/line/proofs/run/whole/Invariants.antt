@@ -1,8 +1,5 @@
-use mathlib.Core.Path.{◌≡◌}
-use Prim.Native.Nat.{◌+◌, ◌-◌, ◌≤◌, min}
-use native.Mathlib.Omega.{arith}
-use borrow.Author.Rules.{rules}
-use Rattle.line.proofs.Running.{Along, start, ahead, stop, same, room_on, room_less}
+use Prim.Native.Nat.{◌-◌}
+use Rattle.line.proofs.Running.{Along}
 use Rattle.line.proofs.run.whole.Given as goal
 
 abbrev pub invariant-loop-at : goal.invariant-loop-at

@@ -1,12 +1,11 @@
 -- The loop keeps `Searching`: what is still to be scanned gives, with the bits scanned, what there is to find.
 use mathlib.Core.Path.{refl}
-use Prim.Native.Nat.{◌+◌, ◌-◌, ◌*◌, ◌<◌}
+use Prim.Native.Nat.{◌+◌, ◌*◌, ◌<◌}
 use native.Mathlib.Omega.{arith}
 use lib.ListN.{get_or}
-use borrow.Author.Rules.{rules}
 use Rattle.bits.specs.Bits.{bits_of}
 use Rattle.bits.proofs.Arrays.{array_length}
-use Rattle.line.proofs.Scanning.{Searching, searching, low, turn_few, turn_miss, turn_hit, searched}
+use Rattle.line.proofs.Scanning.{searching, low, turn_few, turn_miss, turn_hit, searched}
 use Rattle.line.proofs.search.search.Goals as goal
 
 pub loop-i-init : goal.loop-i-init

@@ -1,11 +1,5 @@
-use mathlib.Core.Path.{refl}
-use Prim.Native.Nat.{◌+◌, ◌-◌, ◌*◌, ◌<◌}
-use native.Mathlib.Omega.{arith}
-use lib.ListN.{get_or}
-use borrow.Author.Rules.{rules}
-use Rattle.bits.specs.Bits.{bits_of}
-use Rattle.bits.proofs.Arrays.{array_length}
-use Rattle.line.proofs.Scanning.{Searching, searching, low, turn_few, turn_miss, turn_hit, searched}
+use Prim.Native.Nat.{◌-◌}
+use Rattle.line.proofs.Scanning.{Searching}
 use Rattle.line.proofs.search.search.Given as goal
 
 abbrev pub invariant-loop-i : goal.invariant-loop-i

@@ -1,5 +1,4 @@
 -- Field by field; whether the blackout goes on is what the test picks.
-use borrow.Author.Rules.{rules}
 use borrow.Author.Tests.{lt-ltb, le-ltb}
 use Rattle.line.proofs.stretch.darkened_by.Goals as goal
 

@@ -1,5 +1,4 @@
 -- Field by field; the blackout's bits are those that the test picks.
-use borrow.Author.Rules.{rules}
 use Rattle.line.proofs.stretch.scanned_to.Goals as goal
 
 pub returns-then-f : goal.returns-then-f

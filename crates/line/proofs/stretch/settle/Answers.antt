@@ -1,6 +1,5 @@
 -- Where the place is not the first of a block, the block at hand is the one that was asked for.
 use mathlib.Core.Path.{refl}
-use borrow.Author.Rules.{rules}
 use Rattle.line.proofs.stretch.settle.Goals as goal
 
 pub returns-else-place-eq0 : goal.returns-else-place-eq0

@@ -1,6 +1,5 @@
 -- By the two tests.
 use native.Mathlib.Omega.{arith}
-use borrow.Author.Rules.{rules}
 use borrow.Author.Tests.{lt-ltb, le-ltb}
 use Rattle.line.proofs.tests.due.Goals as goal
 

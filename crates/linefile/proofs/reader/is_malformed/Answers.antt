@@ -1,6 +1,5 @@
 -- The tests stand in the definition's order, and each number is the one at its place.
 use Rattle.linefile.specs.File.{malformed}
-use borrow.Author.Rules.{rules}
 use Rattle.linefile.proofs.reader.is_malformed.Goals as goal
 
 pub returns : goal.returns

@@ -1,6 +1,5 @@
 -- Where D is not 0 the remainder decides.
 use borrow.Author.Tests.{eq-eqb, ne_eqb}
-use borrow.Author.Rules.{rules}
 use Rattle.linefile.proofs.reader.is_ragged.Goals as goal
 
 pub returns-then-d-eq0 : goal.returns-then-d-eq0

@@ -2,7 +2,6 @@
 use Prim.Native.Nat.{ℕ, ◌+◌, ◌*◌, ◌^◌, ◌<◌, ◌≤◌}
 use native.Mathlib.Omega.{arith}
 use native.Mathlib.Nat.{mul-le-mul}
-use borrow.Author.Rules.{rules}
 use Rattle.linefile.proofs.reader.is_rate_refused.Goals as goal
 
 product : (a b : ℕ) → a ≤ 255 → b ≤ 255 → a * (b + 1) < 2 ^ 64

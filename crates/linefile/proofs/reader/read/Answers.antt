@@ -2,7 +2,6 @@
 use mathlib.Core.Path.{sym, ◌∙◌}
 use Rattle.linefile.specs.File.{contents}
 use Rattle.linefile.proofs.Areas.{areas_inside}
-use borrow.Author.Rules.{rules}
 use Rattle.linefile.proofs.reader.read.Goals as goal
 
 pub settings_in-settings-requires : goal.settings_in-settings-requires

@@ -4,7 +4,6 @@ use native.Mathlib.Omega.{arith}
 use Rattle.bits.proofs.Lists.{Bytes}
 use Rattle.bits.proofs.Parts.{sixteen}
 use Rattle.linefile.specs.File.{settings_at}
-use borrow.Author.Rules.{rules}
 use Rattle.linefile.proofs.reader.settings_in.Goals as goal
 
 pub returns : goal.returns

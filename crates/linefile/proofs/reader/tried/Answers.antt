@@ -1,6 +1,5 @@
 -- The tests come in the order of the definition.
 use Rattle.linefile.specs.File.{read_answer}
-use borrow.Author.Rules.{rules}
 use Rattle.linefile.proofs.reader.tried.Goals as goal
 
 pub returns-then-is_malformed : goal.returns-then-is_malformed

@@ -1,7 +1,6 @@
 -- The loop keeps `Appended`.
-use Prim.Native.Nat.{◌-◌}
 use native.Mathlib.Omega.{arith}
-use Rattle.linefile.proofs.Appended.{Appended, none_appended, as_long, more_appended, all_appended}
+use Rattle.linefile.proofs.Appended.{none_appended, as_long, more_appended, all_appended}
 use Rattle.linefile.proofs.running.append.Goals as goal
 
 pub loop-i-init : goal.loop-i-init

@@ -1,6 +1,5 @@
 use Prim.Native.Nat.{◌-◌}
-use native.Mathlib.Omega.{arith}
-use Rattle.linefile.proofs.Appended.{Appended, none_appended, as_long, more_appended, all_appended}
+use Rattle.linefile.proofs.Appended.{Appended}
 use Rattle.linefile.proofs.running.append.Given as goal
 
 abbrev pub invariant-loop-i : goal.invariant-loop-i

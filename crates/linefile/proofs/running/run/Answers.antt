@@ -1,6 +1,5 @@
 -- A file that is not refused gives its line what it needs, free or paced, and what the line wrote is what the file's definition says.
 use native.Mathlib.Omega.{arith}
-use borrow.Author.Rules.{rules}
 use Rattle.linefile.proofs.Areas.{bits_told}
 use Rattle.linefile.proofs.Results.{free_needs, paced_needs, no_room, all_run, none_run}
 use Rattle.linefile.proofs.running.run.Goals as goal

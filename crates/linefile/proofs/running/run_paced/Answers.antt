@@ -1,6 +1,6 @@
 -- The settings pass, so that the line opens; the loop keeps `Pacing`, and closing sends the rest.
 use mathlib.Core.Path.{◌≡◌}
-use Prim.Native.Nat.{◌+◌, ◌-◌, ◌<◌}
+use Prim.Native.Nat.{◌+◌, ◌<◌}
 use native.Mathlib.Omega.{arith}
 use lib.ListN.{length}
 use borrow.Author.Rules.{rules}
@@ -28,7 +28,7 @@ overflow_add-i c =
     let l = c.loop-i in
     let t = c.tick_on-next in
     let a : Pacing c.args.c c.args.file.now c.args.from c.args.n c.args.output.now c.tick_on-next.new.output t.result (l.i + c.args.c.d) =
-        paced_on c.args.c c.args.file.now c.args.from c.args.n c.args.output.now (search rules) c.requires l.output l.g l.i l.invariant
+    paced_on c.args.c c.args.file.now c.args.from c.args.n c.args.output.now (search rules) c.requires l.output l.g l.i l.invariant
     c.loop-i-test.true _ t.result t.ensures.value t.ensures.output_after in
     omega (arith, a.high, c.requires.few)
 

@@ -1,9 +1,5 @@
-use mathlib.Core.Path.{◌≡◌}
-use Prim.Native.Nat.{◌-◌, ◌<◌}
-use native.Mathlib.Omega.{arith}
-use lib.ListN.{length}
-use borrow.Author.Rules.{rules}
-use Rattle.linefile.proofs.Pacing.{Pacing, pacing, can_tick, paced_on, can_close, paced_all, paced_length}
+use Prim.Native.Nat.{◌-◌}
+use Rattle.linefile.proofs.Pacing.{Pacing}
 use Rattle.linefile.proofs.running.run_paced.Given as goal
 
 abbrev pub invariant-loop-i : goal.invariant-loop-i

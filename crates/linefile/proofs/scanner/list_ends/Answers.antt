@@ -1,7 +1,6 @@
 -- The loop keeps `Listing`.
-use Prim.Native.Nat.{◌-◌}
 use native.Mathlib.Omega.{arith}
-use Rattle.linefile.proofs.Listing.{Listing, listing, bit, turn_found, turn_none, listed}
+use Rattle.linefile.proofs.Listing.{listing, bit, turn_found, turn_none, listed}
 use Rattle.linefile.proofs.scanner.list_ends.Goals as goal
 
 pub loop-i-init : goal.loop-i-init
@@ -14,9 +13,9 @@ overflow_add-from c = omega (arith, c.loop-i-test.true, c.requires.1)
 pub look-t-requires : goal.look-t-requires
 look-t-requires c =
     let l = c.loop-i in record {
-  steady = l.invariant.steady;
-  v_bound = bit _ _ _ _ _ _ l.d l.scanner l.count l.i c.get.result l.invariant c.loop-i-test.true c.get.ensures;
-}
+      steady = l.invariant.steady;
+      v_bound = bit _ _ _ _ _ _ l.d l.scanner l.count l.i c.get.result l.invariant c.loop-i-test.true c.get.ensures;
+    }
 
 pub overflow_cast-i : goal.overflow_cast-i
 overflow_cast-i c = omega (arith, c.loop-i-test.true, c.requires.1)

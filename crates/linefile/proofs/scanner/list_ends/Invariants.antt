@@ -1,6 +1,5 @@
 use Prim.Native.Nat.{◌-◌}
-use native.Mathlib.Omega.{arith}
-use Rattle.linefile.proofs.Listing.{Listing, listing, bit, turn_found, turn_none, listed}
+use Rattle.linefile.proofs.Listing.{Listing}
 use Rattle.linefile.proofs.scanner.list_ends.Given as goal
 
 abbrev pub invariant-loop-i : goal.invariant-loop-i

@@ -1,6 +1,5 @@
 -- Each branch is a law on one line bit.
 use native.Mathlib.Omega.{arith}
-use borrow.Author.Rules.{rules}
 use Rattle.linefile.proofs.Looking.{low, looks_dark, looks_few, looks_hit, looks_miss}
 use Rattle.linefile.proofs.scanner.look.Goals as goal
 

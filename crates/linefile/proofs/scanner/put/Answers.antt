@@ -1,7 +1,6 @@
 -- Past the end there is nothing to store.
 use mathlib.Core.Path.{sym}
 use lib.Seq.{set_out}
-use borrow.Author.Rules.{rules}
 use Rattle.linefile.proofs.scanner.put.Goals as goal
 
 pub returns-else-k-d : goal.returns-else-k-d

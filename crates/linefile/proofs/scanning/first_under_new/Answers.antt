@@ -1,6 +1,5 @@
 -- The sum as it stands.
 use mathlib.Core.Path.{refl}
-use borrow.Author.Rules.{rules}
 use Rattle.linefile.proofs.scanning.first_under_new.Goals as goal
 
 pub returns : goal.returns

@@ -5,7 +5,6 @@ use Prim.Native.Nat.{ℕ, ◌*◌}
 use native.Mathlib.Omega.{arith}
 use lib.ListN.{length}
 use lib.Seq.{sets}
-use borrow.Author.Rules.{rules}
 use Rattle.refusal.specs.declared.Answer.{Answer}
 use Rattle.bits.specs.Bits.{part}
 use Rattle.mode.specs.Ends.{pattern_ends}

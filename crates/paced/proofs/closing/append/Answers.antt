@@ -1,6 +1,5 @@
 -- The part lent from the current byte on comes back with the bits laid in it.
 use native.Mathlib.Omega.{arith}
-use borrow.Author.Rules.{rules}
 use Rattle.paced.proofs.Appending.{appended}
 use Rattle.paced.proofs.closing.append.Goals as goal
 

@@ -1,7 +1,6 @@
 -- The ready bits are copied, and the rest is appended to them.
 use Prim.Native.Nat.{◌*◌, ◌≤◌}
 use native.Mathlib.Omega.{arith}
-use borrow.Author.Rules.{rules}
 use lib.ListN.{length}
 use Rattle.paced.proofs.Records.{length_queue, counts_in}
 use Rattle.paced.proofs.Appending.{same}

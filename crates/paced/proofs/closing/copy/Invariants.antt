@@ -1,13 +1,6 @@
-use mathlib.Core.Path.{◌≡◌, sym, ap, ◌∙◌}
-use Prim.Native.Nat.{ℕ, ◌+◌, ◌-◌, ◌≤◌, min}
-use native.Mathlib.Omega.{arith}
-use lib.ListN.{length}
-use borrow.Author.Rules.{rules}
+use mathlib.Core.Path.{◌≡◌}
+use Prim.Native.Nat.{◌-◌, ◌≤◌}
 use Rattle.bits.specs.Bits.{part, laid}
-use Rattle.bits.proofs.Arrays.{array_length}
-use Rattle.bits.proofs.Parts.{part_none}
-use Rattle.bits.proofs.Laid.{laid_nothing}
-use Rattle.paced.proofs.Appending.{copied, same}
 use Rattle.paced.proofs.closing.copy.Given as goal
 
 abbrev pub invariant-loop-i : goal.invariant-loop-i

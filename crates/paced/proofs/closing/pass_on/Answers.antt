@@ -3,9 +3,8 @@ use mathlib.Core.Path.{◌≡◌, refl}
 use Prim.Native.Nat.{ℕ, ◌+◌, ◌-◌, ◌*◌, ◌≤◌, min}
 use native.Mathlib.Omega.{arith}
 use lib.ListN.{length}
-use borrow.Author.Rules.{rules}
 use Rattle.bits.proofs.Arrays.{array_length}
-use Rattle.line.proofs.Running.{Along, start, ahead, stop, same, going, going_ready}
+use Rattle.line.proofs.Running.{start, ahead, stop, same, going, going_ready}
 use Rattle.paced.proofs.Blocks.{ran_block}
 use Rattle.paced.proofs.closing.pass_on.Goals as goal
 

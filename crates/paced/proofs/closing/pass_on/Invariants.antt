@@ -1,11 +1,5 @@
-use mathlib.Core.Path.{◌≡◌, refl}
-use Prim.Native.Nat.{ℕ, ◌+◌, ◌-◌, ◌*◌, ◌≤◌, min}
-use native.Mathlib.Omega.{arith}
-use lib.ListN.{length}
-use borrow.Author.Rules.{rules}
-use Rattle.bits.proofs.Arrays.{array_length}
-use Rattle.line.proofs.Running.{Along, start, ahead, stop, same, going, going_ready}
-use Rattle.paced.proofs.Blocks.{ran_block}
+use Prim.Native.Nat.{◌-◌}
+use Rattle.line.proofs.Running.{Along, going}
 use Rattle.paced.proofs.closing.pass_on.Given as goal
 
 abbrev pub invariant-loop-i : goal.invariant-loop-i

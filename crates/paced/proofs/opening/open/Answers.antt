@@ -1,7 +1,6 @@
 -- The line's own opening decides first, and then D; where neither refuses, the record holds M fillers.
 use mathlib.Core.Path.{sym, ◌∙◌}
 use native.Mathlib.Omega.{arith}
-use borrow.Author.Rules.{rules}
 use Rattle.paced.proofs.Starts.{refused_as_the_line, l_in, refused_too_fast, few_d, open_done}
 use Rattle.paced.proofs.opening.open.Goals as goal
 

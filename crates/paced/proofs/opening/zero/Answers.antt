@@ -1,6 +1,5 @@
 -- The line's record of zeros, with nothing held.
 use mathlib.Core.Path.{ap, ◌∙◌}
-use borrow.Author.Rules.{rules}
 use Rattle.line.specs.declared.record.Line.{Line}
 use Rattle.paced.specs.Opening.{empty}
 use Rattle.paced.proofs.opening.zero.Goals as goal

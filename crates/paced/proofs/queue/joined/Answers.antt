@@ -1,5 +1,4 @@
 -- What the reading, the drawing and the writing give is what `joined_is` joins.
-use borrow.Author.Rules.{rules}
 use Rattle.paced.proofs.Joining.{joined_is}
 use Rattle.paced.proofs.queue.joined.Goals as goal
 

@@ -4,7 +4,6 @@ use mathlib.Core.List.{List}
 use Prim.Native.Nat.{ℕ}
 use native.Mathlib.Omega.{arith}
 use lib.ListN.{length}
-use borrow.Author.Rules.{rules}
 use Rattle.bits.specs.Bits.{part, wrote}
 use Rattle.bits.proofs.Arrays.{array_length}
 use Rattle.bits.proofs.Parts.{small_part, length_part}

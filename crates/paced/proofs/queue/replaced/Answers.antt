@@ -1,6 +1,5 @@
 -- The bits behind those written, up to the end of their byte, are read before and written after.
 use mathlib.Core.Path.{refl}
-use borrow.Author.Rules.{rules}
 use Rattle.bits.proofs.Arrays.{array_length, array_bytes}
 use Rattle.paced.proofs.Joining.{replaced_is}
 use Rattle.paced.proofs.queue.replaced.Goals as goal

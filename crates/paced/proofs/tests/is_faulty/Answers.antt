@@ -4,7 +4,6 @@ use mathlib.Core.Bool.{true, false, not}
 use Prim.Native.Nat.{◌+◌}
 use native.Mathlib.Omega.{arith}
 use lib.ListN.{drop}
-use borrow.Author.Rules.{rules}
 use Rattle.bits.specs.Bits.{bits_of}
 use Rattle.bits.specs.Blank.{blank}
 use Rattle.line.specs.Tests.{faulty as line_faulty}

@@ -1,7 +1,6 @@
 -- The three counts, as they stand in the record, meet the tests of an open line or of a closed one.
 use mathlib.Core.Path.{sym, ap, ◌∙◌}
 use mathlib.Core.Bool.{Bool, cond}
-use borrow.Author.Rules.{rules}
 use Rattle.paced.specs.Tests.{leftover, unbalanced}
 use Rattle.paced.proofs.tests.is_miscounted.Goals as goal
 

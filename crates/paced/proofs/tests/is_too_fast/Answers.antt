@@ -5,7 +5,6 @@ use Prim.Native.Nat.{◌+◌, ◌*◌, ◌≤◌}
 use native.Mathlib.Nat.{mul-le-mul_right}
 use native.Mathlib.Omega.{arith}
 use lib.Dec.{ltb, eqb}
-use borrow.Author.Rules.{rules}
 use borrow.Author.Tests.{lt-ltb, eq-eqb, ne_eqb}
 use Rattle.paced.proofs.tests.is_too_fast.Goals as goal
 

@@ -1,5 +1,4 @@
 -- The tests are the document's, once M is.
-use borrow.Author.Rules.{rules}
 use Rattle.paced.proofs.tests.is_unbalanced.Goals as goal
 
 pub returns : goal.returns

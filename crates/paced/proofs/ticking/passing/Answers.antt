@@ -1,6 +1,5 @@
 -- Where w bits wait they pass, otherwise none do.
 use native.Mathlib.Omega.{arith}
-use borrow.Author.Rules.{rules}
 use Rattle.bits.proofs.Arrays.{array_length, array_bytes}
 use Rattle.pace.proofs.Moves.{width_most}
 use Rattle.paced.proofs.Blocks.{move_none, move_some}

@@ -5,7 +5,6 @@ use Prim.Native.Nat.{◌+◌, ◌/◌}
 use native.Mathlib.Omega.{arith}
 use lib.Dec.{ltb}
 use lib.ListN.{length}
-use borrow.Author.Rules.{rules}
 use borrow.Author.Tests.{lt-ltb, le-ltb}
 use Rattle.bits.proofs.Arrays.{array_length, array_bytes}
 use Rattle.refusal.specs.declared.Refusal.{Refusal}
@@ -62,9 +61,9 @@ ticked-requires c =
     let f4 : ltb (length a.output.now) ((a.p.d + 7) / 8) ≡ false = le-ltb _ _ c.if-output-bytes.false in
     let g = c.well_formed.0.1.1 in
     let u = g.0.1.1 in record {
-  opened = open_of a.p f1 f2 u.1.0.1 (array_length 16 a.p.line.iv _ u.1.1.1.1.1.1.1.1.0) (array_bytes 16 a.p.line.iv _ u.1.1.1.1.1.1.1.1.0) (array_length 60 a.p.queue _ g.1.1.1.1.1.1.0) (array_bytes 60 a.p.queue _ g.1.1.1.1.1.1.0);
-  room = (omega (arith, c.if-input-bytes.false), omega (arith, c.if-output-bytes.false));
-}
+      opened = open_of a.p f1 f2 u.1.0.1 (array_length 16 a.p.line.iv _ u.1.1.1.1.1.1.1.1.0) (array_bytes 16 a.p.line.iv _ u.1.1.1.1.1.1.1.1.0) (array_length 60 a.p.queue _ g.1.1.1.1.1.1.0) (array_bytes 60 a.p.queue _ g.1.1.1.1.1.1.0);
+      room = (omega (arith, c.if-input-bytes.false), omega (arith, c.if-output-bytes.false));
+    }
 
 pub returns : goal.returns
 unfolding tick_answer

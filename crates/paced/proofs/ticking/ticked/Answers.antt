@@ -3,7 +3,6 @@ use mathlib.Core.Path.{◌≡◌, refl, sym, ap, subst, ◌∙◌}
 use mathlib.Core.List.{◌++◌}
 use Prim.Native.Nat.{ℕ, ◌+◌, ◌-◌, ◌≤◌}
 use native.Mathlib.Omega.{arith}
-use borrow.Author.Rules.{rules}
 use Rattle.bits.specs.Bits.{pack, part, laid}
 use Rattle.pace.specs.Tick.{width, moves}
 use Rattle.paced.specs.declared.record.Paced.{Paced}
@@ -54,37 +53,37 @@ passing-m-requires c =
     (o.good, omega (arith, move_in c.args.p o _ _ _ _ er ew ef el))
 
 pub overflow_add-still : goal.overflow_add-still
-overflow_add-still c = 
+overflow_add-still c =
     let f = few c.args.p c.requires.opened c.wide-ready.result c.wide-waiting.result c.wide-fillers.result c.less-leaving.result c.passing-m.result.count
     c.wide-ready.ensures c.wide-waiting.ensures c.wide-fillers.ensures c.less-leaving.ensures c.passing-m.ensures.count in
     omega (arith, f.0, f.1, f.2)
 
 pub overflow_sub-still : goal.overflow_sub-still
-overflow_sub-still c = 
+overflow_sub-still c =
     let f = few c.args.p c.requires.opened c.wide-ready.result c.wide-waiting.result c.wide-fillers.result c.less-leaving.result c.passing-m.result.count
     c.wide-ready.ensures c.wide-waiting.ensures c.wide-fillers.ensures c.less-leaving.ensures c.passing-m.ensures.count in
     omega (arith, f.0, f.1, f.2)
 
 pub overflow_cast-still : goal.overflow_cast-still
-overflow_cast-still c = 
+overflow_cast-still c =
     let f = few c.args.p c.requires.opened c.wide-ready.result c.wide-waiting.result c.wide-fillers.result c.less-leaving.result c.passing-m.result.count
     c.wide-ready.ensures c.wide-waiting.ensures c.wide-fillers.ensures c.less-leaving.ensures c.passing-m.ensures.count in
     omega (arith, f.0, f.1, f.2)
 
 pub overflow_cast-result : goal.overflow_cast-result
-overflow_cast-result c = 
+overflow_cast-result c =
     let f = few c.args.p c.requires.opened c.wide-ready.result c.wide-waiting.result c.wide-fillers.result c.less-leaving.result c.passing-m.result.count
     c.wide-ready.ensures c.wide-waiting.ensures c.wide-fillers.ensures c.less-leaving.ensures c.passing-m.ensures.count in
     omega (arith, f.0, f.1, f.2)
 
 pub overflow_add-result : goal.overflow_add-result
-overflow_add-result c = 
+overflow_add-result c =
     let f = few c.args.p c.requires.opened c.wide-ready.result c.wide-waiting.result c.wide-fillers.result c.less-leaving.result c.passing-m.result.count
     c.wide-ready.ensures c.wide-waiting.ensures c.wide-fillers.ensures c.less-leaving.ensures c.passing-m.ensures.count in
     omega (arith, f.0, f.1, f.2)
 
 pub overflow_cast-result-2 : goal.overflow_cast-result-2
-overflow_cast-result-2 c = 
+overflow_cast-result-2 c =
     let f = few c.args.p c.requires.opened c.wide-ready.result c.wide-waiting.result c.wide-fillers.result c.less-leaving.result c.passing-m.result.count
     c.wide-ready.ensures c.wide-waiting.ensures c.wide-fillers.ensures c.less-leaving.ensures c.passing-m.ensures.count in
     omega (arith, f.0, f.1, f.2)
@@ -107,7 +106,7 @@ returns c =
     let re : lv ≡ a.p.d - a.p.fillers = el ∙ ap (λ (x : ℕ). a.p.d - x) ef in
     let q_is = subst (λ (x : ℕ). c.joined-q.result ≡ pack 60 (part a.p.queue lv (k + x) ++ part a.input.now 0 a.p.d)) ew c.joined-q.ensures in
     let passes = subst (λ (x : ℕ). Passes a.p.line c.joined-q.result k (x + a.p.d) m) ew c.passing-m.ensures in record {
-  value = tick_is a.p o a.input.now c.requires.room.0 lv k re (ap (λ (x : ℕ). x - lv) er) c.joined-q.result q_is m passes _ _ _
+      value = tick_is a.p o a.input.now c.requires.room.0 lv k re (ap (λ (x : ℕ). x - lv) er) c.joined-q.result q_is m passes _ _ _
           (ap (λ (x : ℕ). x + a.p.d - m.count) ew) refl (c.less.ensures ∙ ap (λ (x : ℕ). x - a.p.d) ef);
-  output_after = c.leave.ensures ∙ ap (laid a.output.now 0) (ap (part a.p.queue 0) re ∙ sym (leaving_bits a.p o));
-}
+      output_after = c.leave.ensures ∙ ap (laid a.output.now 0) (ap (part a.p.queue 0) re ∙ sym (leaving_bits a.p o));
+    }

@@ -3,7 +3,6 @@ use mathlib.Core.Path.{refl, ◌∙◌}
 use Prim.Native.Nat.{◌+◌}
 use lib.ListN.{length}
 use Rattle.tisarqluk.proofs.Parts.{filled}
-use borrow.Author.Rules.{rules}
 use Rattle.tisarqluk.proofs.bytes.fill.Goals as goal
 
 pub returns : goal.returns

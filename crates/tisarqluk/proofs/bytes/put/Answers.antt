@@ -1,7 +1,7 @@
 -- `tisarqluk::bytes::put` meets its contract: after j turns the buffer is `paste` of the first j bytes.
 use mathlib.Core.Path.{◌≡◌, refl, ap, ◌∙◌}
 use mathlib.Core.List.{List}
-use Prim.Native.Nat.{ℕ, ◌≤◌, ◌<◌, ◌+◌, ◌-◌}
+use Prim.Native.Nat.{ℕ, ◌≤◌, ◌<◌, ◌+◌}
 use native.Mathlib.Nat.{le_antisymm}
 use native.Mathlib.Numerals.{add-one}
 use native.Mathlib.Omega.{arith}
@@ -33,12 +33,11 @@ pub loop-j-smaller : goal.loop-j-smaller
 loop-j-smaller c = omega arith
 
 pub loop-j-preserved : goal.loop-j-preserved
-loop-j-preserved c =
-    (
-      omega arith,
-      length-set c.loop-j.buf (c.args.at + c.loop-j.j) _ ∙ c.loop-j.invariant.1,
-      more c.args.buf.now c.args.at c.args.a.now c.loop-j.buf c.loop-j.j c.requires c.loop-j-test.true c.loop-j.invariant.2,
-    )
+loop-j-preserved c = (
+  omega arith,
+  length-set c.loop-j.buf (c.args.at + c.loop-j.j) _ ∙ c.loop-j.invariant.1,
+  more c.args.buf.now c.args.at c.args.a.now c.loop-j.buf c.loop-j.j c.requires c.loop-j-test.true c.loop-j.invariant.2,
+)
 
 pub shape_of-buf : goal.shape_of-buf
 shape_of-buf c = search rules

@@ -3,7 +3,6 @@ use mathlib.Core.List.{List}
 use Prim.Native.Nat.{ℕ}
 use lib.ListN.{length}
 use borrow.Author.Tests.{lt-leb, le-leb}
-use borrow.Author.Rules.{rules}
 use Rattle.refusal.specs.Numbers.{number_of}
 use Rattle.line.specs.declared.free.Reply.{Reply}
 use Rattle.line.specs.Free.{opening}
@@ -14,9 +13,9 @@ use Rattle.tisarqluk.proofs.free_calls.tq_free_open.Goals as goal
 pub returns-then-buf-lt-BYTES : goal.returns-then-buf-lt-BYTES
 returns-then-buf-lt-BYTES c =
     let short = lt-leb 58 (length c.args.buf.now) c.if-buf-lt-BYTES.true in record {
-  value = unless _ short;
-  buf_after = unless _ short;
-}
+      value = unless _ short;
+      buf_after = unless _ short;
+    }
 
 pub returns : goal.returns
 returns c =

@@ -3,7 +3,6 @@
 use mathlib.Core.Path.{sym, ◌∙◌}
 use mathlib.Core.List.{List}
 use Prim.Native.Nat.{ℕ}
-use borrow.Author.Rules.{rules}
 use Rattle.refusal.specs.Numbers.{number_of}
 use Rattle.line.specs.declared.record.Line.{Line}
 use Rattle.line.specs.declared.free.Reply.{Reply}
@@ -34,7 +33,7 @@ returns-then-holds_free c =
 pub returns-else-holds_free : goal.returns-else-holds_free
 returns-else-holds_free c =
     let h = sym c.holds_free.ensures ∙ c.if-holds_free.false in record {
-  value = unless _ h;
-  buf_after = unless _ h;
-  output_after = unless _ h;
-}
+      value = unless _ h;
+      buf_after = unless _ h;
+      output_after = unless _ h;
+    }

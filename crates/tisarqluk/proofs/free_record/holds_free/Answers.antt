@@ -1,7 +1,6 @@
 -- `tisarqluk::free_record::holds_free` meets its contract: its tests are those of the definition. Assumes nothing.
 use lib.ListN.{length}
 use borrow.Author.Tests.{lt-leb, le-leb}
-use borrow.Author.Rules.{rules}
 use Rattle.tisarqluk.specs.FreeRecord.{holds_free}
 use Rattle.tisarqluk.proofs.free_record.holds_free.Goals as goal
 

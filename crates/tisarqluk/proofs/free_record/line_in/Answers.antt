@@ -1,6 +1,5 @@
 -- `tisarqluk::free_record::line_in` meets its contract: each field is read from its place. Assumes nothing.
 use Rattle.tisarqluk.specs.FreeRecord.{line_in}
-use borrow.Author.Rules.{rules}
 use Rattle.tisarqluk.proofs.free_record.line_in.Goals as goal
 
 pub returns : goal.returns

@@ -3,7 +3,6 @@
 use mathlib.Core.Path.{sym, ◌∙◌}
 use mathlib.Core.List.{List}
 use Prim.Native.Nat.{ℕ}
-use borrow.Author.Rules.{rules}
 use Rattle.paced.specs.declared.record.Paced.{Paced}
 use Rattle.paced.specs.declared.answer.Moved.{Moved}
 use Rattle.paced.specs.Closing.{closing, close_writes}
@@ -33,7 +32,7 @@ returns-then-holds_paced c =
 pub returns-else-holds_paced : goal.returns-else-holds_paced
 returns-else-holds_paced c =
     let h = sym c.holds_paced.ensures ∙ c.if-holds_paced.false in record {
-  value = c.no_record.ensures ∙ unless _ h;
-  buf_after = unless _ h;
-  output_after = unless _ h;
-}
+      value = c.no_record.ensures ∙ unless _ h;
+      buf_after = unless _ h;
+      output_after = unless _ h;
+    }

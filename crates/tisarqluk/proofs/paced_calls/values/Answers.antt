@@ -1,6 +1,5 @@
 -- `tisarqluk::paced_calls::values` meets its contract: each arm of the match is told which answer it has. Assumes nothing.
 use mathlib.Core.Path.{sym, ap}
-use borrow.Author.Rules.{rules}
 use Rattle.tisarqluk.specs.PacedCalls.{answer_of}
 use Rattle.tisarqluk.proofs.paced_calls.values.Goals as goal
 

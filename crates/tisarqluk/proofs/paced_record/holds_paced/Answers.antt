@@ -1,7 +1,6 @@
 -- `tisarqluk::paced_record::holds_paced` meets its contract: its tests are those of the definition. Assumes nothing.
 use lib.ListN.{length}
 use borrow.Author.Tests.{lt-leb, le-leb}
-use borrow.Author.Rules.{rules}
 use Rattle.tisarqluk.specs.PacedRecord.{holds_paced}
 use Rattle.tisarqluk.proofs.paced_record.holds_paced.Goals as goal
 

@@ -1,6 +1,5 @@
 -- `tisarqluk::paced_record::paced_in` meets its contract: each field is read from its place. Assumes nothing.
 use Rattle.tisarqluk.specs.PacedRecord.{paced_in}
-use borrow.Author.Rules.{rules}
 use Rattle.tisarqluk.proofs.paced_record.paced_in.Goals as goal
 
 pub returns : goal.returns
