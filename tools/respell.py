@@ -5,9 +5,9 @@ usage: python3 tools/respell.py [FOLDER]      once, after port.py, on the tree a
 
 Every name of an .antt file that has a hyphen or is in camel case is turned, in .antt and .rt files and in must-fail edits; in pages (README.md,
 docs/) where it stands between backquotes or is in camel case. Names that start with a capital letter and have a hyphen lose the hyphen
-(Ticked-to, TickedTo). Names of the toolchain's library keep their spelling. Names that the checker makes for proofs that walk the code (Need-.., After-..) are left: such a file is written anew. It prints
-the names that fall together: but for those of APART they are a definition and the function of src/ that gives it, or a name that an old proof has for a
-call of that function.
+(Ticked-to, TickedTo). Names of the toolchain's library keep their spelling. Names that the checker makes for proofs that walk
+the code (Need-.., After-..) are left: such a file is written anew. It prints the names that fall together: but for those of APART they are a definition
+and the function of src/ that gives it, or a name that an old proof has for a call of that function.
 """
 
 import os
@@ -106,8 +106,6 @@ def main():
             fall.append((new, sorted(olds)))
     for new, olds in fall:
         print(f"{new}: {', '.join(olds)}")
-    if "--dry" in sys.argv:
-        return
     spoken = dict(turned, **{n: respelled(n) for n in PORTED})
     for p, t in texts.items():
         lines = []
