@@ -3,6 +3,7 @@ use Prim.Native.Nat.{ℕ, ◌+◌, ◌*◌}
 use mathlib.Core.Path.{◌≡◌, sym, ap, ◌∙◌}
 use mathlib.Core.List.{[]}
 use native.Mathlib.Omega.{arith}
+use borrow.Author.Rules.{rules}
 use Rattle.bits.specs.Bits.{laid}
 use Rattle.bits.proofs.Laid.{laid_none}
 use Rattle.bits.proofs.Ends.{clear_byte}
@@ -10,7 +11,7 @@ use Rattle.bits.proofs.clear.Goals as goal
 
 pub returns-then-e-gt0 : goal.returns-then-e-gt0
 returns-then-e-gt0 c =
-    clear_byte c.args.d.now c.args.j c.args.e c.octet-top.result c.octet.result (λ i. omega (arith, c.slice_known-1.given i))
+    clear_byte c.args.d.now c.args.j c.args.e c.octet-top.result c.octet.result (search rules)
     (omega arith) (omega arith) (omega arith) c.octet-top.ensures c.octet.ensures
 
 pub returns-else-e-gt0 : goal.returns-else-e-gt0

@@ -2,6 +2,7 @@
 use mathlib.Core.Path.{refl, sym}
 use Prim.Native.Nat.{◌+◌, ◌/◌, ◌%◌}
 use native.Mathlib.Omega.{arith}
+use borrow.Author.Rules.{rules}
 use Rattle.bits.proofs.Arrays.{array_length}
 use Rattle.bits.proofs.Laid.{wrote_long, wrote_past}
 use Rattle.bits.proofs.Ends.{write_is}
@@ -10,7 +11,7 @@ use Rattle.bits.proofs.write.Goals as goal
 pub returns-then-end-d : goal.returns-then-end-d
 returns-then-end-d c =
     write_is c.args.d.now c.args.at c.args.b c.args.n (c.args.at / 8 + (c.args.at % 8 + c.args.n + 7) / 8) c.byte.result c.octet-top.result c.pour.new.d c.clear.new.d
-    (λ i. omega (arith, c.slice_known-1.given i))
+    (search rules)
     (array_length 16 c.args.b _ c.well_formed.1.1.0)
     c.if-n-le128.true
     refl c.if-end-d.true
