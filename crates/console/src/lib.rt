@@ -6,7 +6,7 @@ ghost use Rattle.io.specs.Counts.{IsPrefixLen};
 use refusal::Answer;
 use std::io::{Print, Read};
 
-// Whether all of the input was read, or as much as was room for, and how many bytes there are.
+// Whether all of the input was read, or as much as was room for, and how many bytes were.
 #[derive(Clone, Copy)]
 pub struct Input {
     pub ok: bool,
@@ -32,7 +32,7 @@ pub fn read_input<R: Read>(input: &mut R, buf: &mut [u8]) -> Input
             Err(_) => {
                 return Input {
                     ok: false,
-                    bytes: 0,
+                    bytes: done,
                 };
             }
         }

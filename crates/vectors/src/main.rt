@@ -9,10 +9,9 @@
 #![tactic(auto)]
 
 ghost use Rattle.std.specs.Prelude.{◌≤◌};
-ghost use Rattle.io.specs.Counts.{IsPrefixLen};
 
 use std::io;
-use std::io::{Input, Read};
+use std::io::Input;
 
 // 1 where the case agrees, and 0 where it does not.
 fn agrees(case: &[u8]) -> u64
@@ -40,28 +39,9 @@ fn agreeing(cases: &[u8]) -> u64 {
     same
 }
 
-// Reads until buf is full, the input ends or a read fails, and gives how many bytes it put at the start of buf.
-fn read_full<R: Read>(input: &mut R, buf: &mut [u8]) -> usize
-    ensures { IsPrefixLen result buf.new }
-{
-    let mut done: usize = 0;
-    while done < buf.len() {
-        match input.read(&mut buf[done..]) {
-            Ok(more) => {
-                if more == 0 {
-                    return done;
-                }
-                done += more;
-            }
-            Err(_) => return done,
-        }
-    }
-    done
-}
-
 fn main(rt: HostRuntime) -> io::Result<()> {
     let mut buf = [0u8; 16384];
-    let n = read_full(&mut rt.reader(), &mut buf);
+    let n = console::read_input(&mut rt.reader(), &mut buf).bytes;
     let same = agreeing(&buf[..n]);
     let all = n / 48;
     println!(rt; "vectors {all} same {same}")
