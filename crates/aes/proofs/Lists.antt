@@ -2,30 +2,31 @@
 -- Assumes nothing.
 use mathlib.Core.Path.{◌≡◌, refl, ap, sym, ◌∙◌}
 use mathlib.Core.List.{List, [], ◌∷◌, ◌++◌}
-use Prim.Native.Nat.{ℕ, zero, suc, ◌+◌, ◌<◌, ◌≤◌}
+use Prim.Native.Nat.{ℕ, zero, suc, ◌+◌, ◌<◌}
 use native.Mathlib.Nat.{zero-add, add-zero, add-suc, suc-add, le_of_suc-le-suc, not-suc-le-zero}
 use native.Mathlib.Numerals.{add-one}
 use native.Mathlib.Omega.{arith}
 use lib.ListN.{length, get_or, set, take, drop}
-use lib.Seq.{drop-cons, paste-suc}
-use Rattle.aes.specs.State.{many}
+use lib.Seq.{paste-suc}
+use Rattle.aes.specs.State.{four, many}
 
 pub four_equal : {A : Type 0} {p q r s a b c d : A} → p ≡ a → q ≡ b → r ≡ c → s ≡ d → p ∷ q ∷ r ∷ s ∷ [] ≡ a ∷ b ∷ c ∷ d ∷ []
 four_equal e f g h = rw (e, f, g, h)
+
+-- a list of four, by its index
+pub four_is : {A : Type 0} (l : List A) (d : A) → length l ≡ 4 → l ≡ four (λ i. get_or l i d)
+four_is (p ∷ q ∷ r ∷ s ∷ []) d e = refl
+four_is (p ∷ q ∷ r ∷ s ∷ t ∷ l) d e = absurd (omega (arith, e))
+four_is [] d e = absurd (omega (arith, e))
+four_is (p ∷ []) d e = absurd (omega (arith, e))
+four_is (p ∷ q ∷ []) d e = absurd (omega (arith, e))
+four_is (p ∷ q ∷ r ∷ []) d e = absurd (omega (arith, e))
 
 -- the one at place i of k of a kind, from n on
 pub many_at : {A : Type 0} (f : ℕ → A) (d : A) (n k i : ℕ) → i < k → get_or (many f n k) i d ≡ f (n + i)
 many_at f d n zero i h = absurd (not-suc-le-zero h)
 many_at f d n (suc k) zero h = ap f (sym (add-zero n))
 many_at f d n (suc k) (suc i) h = many_at f d (suc n) k i (le_of_suc-le-suc h) ∙ ap f (suc-add n i ∙ sym (add-suc n i))
-
--- elements read one after the other, where all are there, are a part of the list
-pub many_take : (l : List ℕ) (k n : ℕ) → n + k ≤ length l → many (λ i. get_or l i 0) n k ≡ take k (drop n l)
-many_take l zero n h = refl
-many_take l (suc k) n h =
-    let h1 : n < length l = omega arith in
-    let h2 : suc n + k ≤ length l = omega arith in
-    rw (drop-cons l n 0 h1) (ap (λ (r : List ℕ). get_or l n 0 ∷ r) (many_take l k (suc n) h2))
 
 -- o is d with the first i elements of s over its front; so is o with element i of s set, for i + 1
 pub front_more : {A : Type 0} (d s o : List A) (i : ℕ) (z : A) → i < length d → i < length s → o ≡ take i s ++ drop i d

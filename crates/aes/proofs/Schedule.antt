@@ -3,10 +3,10 @@
 use mathlib.Core.Path.{◌≡◌, refl, ap, sym, ◌∙◌}
 use mathlib.Core.List.{List, [], ◌∷◌, ◌++◌, map}
 use Prim.Native.Nat.{ℕ, zero, suc, ◌+◌, ◌<◌}
-use native.Mathlib.Nat.{zero-add}
 use native.Mathlib.Numerals.{add-one}
 use native.Mathlib.Omega.{arith}
-use lib.ListN.{length, get_or, set, take, drop, replicate, get_or-map}
+use lib.ListN.{length, get_or, set, take, drop, replicate, get_or-map, length-drop}
+use lib.Seq.{get_or-take, get_or-drop, length-take-le}
 use Rattle.aes.specs.State.{State, Word, many, columns, to_words, to_state, from_state}
 use Rattle.aes.specs.Steps.{sub_bytes, shift_rows, mix_columns, add_round_key}
 use Rattle.aes.specs.KeyExpansion.{xor_word, next_key, rcon, round_key, key_expansion}
@@ -49,12 +49,18 @@ key_at s [] i = refl
 key_at s (k ∷ ks) zero = refl
 key_at s (k ∷ ks) (suc i) = key_at s ks i
 
--- a turn of the rounds
-pub rounded : (ks : List State) (s₀ s x : State) (i : ℕ) → s ≡ rounds (map columns ks) s₀ i → x ≡ round_of s (columns (get_or ks (i + 1) []))
-    → x ≡ rounds (map columns ks) s₀ (i + 1)
+-- a turn of the rounds, by the key that is next among those of the rounds 1 to 9
+pub rounded : (ks : List State) (s₀ s x : State) (i : ℕ) → i < 9 → s ≡ rounds (map columns ks) s₀ i
+    → x ≡ round_of s (columns (get_or (take 9 (drop 1 ks)) i [])) → x ≡ rounds (map columns ks) s₀ (i + 1)
 unfolding rounds round_of
-rounded ks s₀ s x i es ex =
-    ex ∙ key_at (mix_columns (shift_rows (sub_bytes s))) ks (i + 1) ∙ rw (es, add-one)
+rounded ks s₀ s x i h es ex =
+    let n : 1 + i ≡ suc i = omega arith in
+    let k : get_or (take 9 (drop 1 ks)) i [] ≡ get_or ks (suc i) [] = get_or-take 9 (drop 1 ks) i [] h ∙ get_or-drop 1 ks i [] ∙ rw n in
+    ex ∙ ap (λ (w : State). round_of s (columns w)) k ∙ key_at (mix_columns (shift_rows (sub_bytes s))) ks (suc i) ∙ rw (es, add-one)
+
+-- there are nine of them
+pub nine : (ks : List State) → length ks ≡ 11 → length (take 9 (drop 1 ks)) ≡ 9
+nine ks e = length-take-le 9 (drop 1 ks) (omega (arith, e, length-drop 1 ks))
 
 -- the whole cipher, step by step
 pub ciphered : (ks : List State) (block r : List ℕ) (a s₀ s b d e : State) (i : ℕ) → a ≡ to_state block → s₀ ≡ add_round_key a (columns (get_or ks 0 []))
@@ -65,20 +71,17 @@ ciphered ks block r a s₀ s b d e i ea e₀ ei es eb ed ee er =
     let first : s₀ ≡ add_round_key (to_state block) (get_or (map columns ks) 0 []) = e₀ ∙ key_at a ks 0 ∙ rw ea in
     er ∙ ap from_state (ee ∙ key_at d ks 10) ∙ rw (ed, eb, es, ei, first)
 
--- the round keys of the words w, laid out
-abbrev pub laid : List Word → List State
-laid w = map columns (many (round_key w) 0 11)
+-- the round keys 1 to 10 of the words w, laid out
+abbrev pub later : List Word → List State
+later w = map columns (many (round_key w) 1 10)
 
-laid_length : (w : List Word) → length (laid w) ≡ 11
-laid_length w = refl
+later_length : (w : List Word) → length (later w) ≡ 10
+later_length w = refl
 
-laid_at : (w : List Word) (i : ℕ) → i < 11 → get_or (laid w) i (columns []) ≡ columns (round_key w i)
-laid_at w i h = get_or-map columns (many (round_key w) 0 11) i [] ∙ ap columns (many_at (round_key w) [] 0 11 i h ∙ ap (round_key w) (zero-add i))
-
--- the list before the first turn of the expansion
-pub laid_first : (w : List Word) (p : State) → p ≡ columns w → replicate 11 p ≡ take 1 (laid w) ++ drop 1 (replicate 11 p)
-unfolding round_key
-laid_first w p e = ap (λ (x : State). x ∷ replicate 10 p) e
+later_at : (w : List Word) (i : ℕ) → i < 10 → get_or (later w) i (columns []) ≡ columns (round_key w (i + 1))
+later_at w i h =
+    let n : 1 + i ≡ i + 1 = omega arith in
+    get_or-map columns (many (round_key w) 1 10) i [] ∙ ap columns (many_at (round_key w) [] 1 10 i h ∙ ap (round_key w) n)
 
 -- the next round key
 pub next_key_is : (w₀ w n : List Word) (c i : ℕ) → w ≡ round_key w₀ i → c ≡ rcon i → n ≡ next_key w c → n ≡ round_key w₀ (i + 1)
@@ -86,14 +89,19 @@ unfolding round_key
 next_key_is w₀ w n c i ew ec en = rw (en, ew, ec, add-one)
 
 -- the list with one round key more
-pub laid_more : (d ks : List State) (p : State) (w₀ n : List Word) (i : ℕ) → i < 10 → length d ≡ 11 → ks ≡ take (i + 1) (laid w₀) ++ drop (i + 1) d
-    → n ≡ round_key w₀ (i + 1) → p ≡ columns n → set ks (i + 1) p ≡ take (i + 1 + 1) (laid w₀) ++ drop (i + 1 + 1) d
-laid_more d ks p w₀ n i hi hd e en ep =
-    ap (set ks (i + 1)) (ep ∙ ap columns en ∙ sym (laid_at w₀ (i + 1) (omega arith)))
-    ∙ front_more d (laid w₀) ks (i + 1) (columns []) (omega arith) (omega (arith, laid_length w₀)) e
+pub later_more : (d ks : List State) (p : State) (w₀ n : List Word) (i : ℕ) → i < 10 → length d ≡ 10 → ks ≡ take i (later w₀) ++ drop i d
+    → n ≡ round_key w₀ (i + 1) → p ≡ columns n → set ks i p ≡ take (i + 1) (later w₀) ++ drop (i + 1) d
+later_more d ks p w₀ n i hi hd e en ep =
+    ap (set ks i) (ep ∙ ap columns en ∙ sym (later_at w₀ i hi))
+    ∙ front_more d (later w₀) ks i (columns []) (omega arith) (omega (arith, later_length w₀)) e
 
 -- the list after the last turn
-pub laid_all : (p : State) (ks : List State) (w : List Word) (key : List ℕ) (i : ℕ) → i ≡ 10 → ks ≡ take (i + 1) (laid w) ++ drop (i + 1) (replicate 11 p)
-    → w ≡ to_words key → ks ≡ schedule key
-unfolding schedule key_expansion
-laid_all p ks w key i ei e ew = rw (e, ei, ew)
+pub later_all : (p : State) (ks : List State) (w : List Word) (key : List ℕ) (i : ℕ) → i ≡ 10 → ks ≡ take i (later w) ++ drop i (replicate 10 p)
+    → p ≡ columns w → w ≡ to_words key → p ∷ (ks ++ []) ≡ schedule key
+unfolding round_key schedule key_expansion
+later_all p ks w key i ei e ep ew = rw (e, ei, ep, ew)
+
+-- what the turns of the expansion come to, and those of the cipher
+pub ruleset expanding = (later_more, next_key_is)
+
+pub ruleset enciphering = (rounded, nine, ciphered)

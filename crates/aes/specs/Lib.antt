@@ -7,4 +7,3 @@ pub mod WordByWord
 pub mod Cipher
 pub mod Schedule
 pub mod Block
-pub mod Inner

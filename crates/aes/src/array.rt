@@ -2,8 +2,11 @@
 ghost use Rattle.std.specs.Prelude.{◌≡◌};
 ghost use Rattle.aes.specs.State.{to_words, to_state, from_state, columns};
 
+use crate::{State, Word};
+
 // The four words of sixteen bytes.
-pub(crate) fn words(b: [u8; 16]) -> [[u8; 4]; 4]
+#[tactic(auto, unfolding(crate::specs::State::to_words))]
+pub(crate) fn words(b: [u8; 16]) -> [Word; 4]
     ensures { result ≡ to_words b }
 {
     [
@@ -15,13 +18,11 @@ pub(crate) fn words(b: [u8; 16]) -> [[u8; 4]; 4]
 }
 
 // A state's columns; and the state whose columns are four words.
-pub(crate) fn transpose(s: [[u8; 4]; 4]) -> [[u8; 4]; 4]
+#[tactic(auto, unfolding(crate::specs::State::columns))]
+pub(crate) fn transpose(s: State) -> State
     ensures { result ≡ columns s }
 {
-    let a = s[0];
-    let b = s[1];
-    let c = s[2];
-    let d = s[3];
+    let [a, b, c, d] = s;
     [
         [a[0], b[0], c[0], d[0]],
         [a[1], b[1], c[1], d[1]],
@@ -31,20 +32,19 @@ pub(crate) fn transpose(s: [[u8; 4]; 4]) -> [[u8; 4]; 4]
 }
 
 // The state of sixteen bytes, column by column.
-pub(crate) fn state(b: [u8; 16]) -> [[u8; 4]; 4]
+#[tactic(auto, unfolding(crate::specs::State::to_words, crate::specs::State::columns, crate::specs::State::to_state))]
+pub(crate) fn state(b: [u8; 16]) -> State
     ensures { result ≡ to_state b }
 {
     transpose(words(b))
 }
 
 // The sixteen bytes of a state, column by column.
-pub(crate) fn block_of(s: [[u8; 4]; 4]) -> [u8; 16]
+#[tactic(auto, unfolding(crate::specs::State::from_state))]
+pub(crate) fn block_of(s: State) -> [u8; 16]
     ensures { result ≡ from_state s }
 {
-    let a = s[0];
-    let b = s[1];
-    let c = s[2];
-    let d = s[3];
+    let [a, b, c, d] = s;
     [
         a[0], b[0], c[0], d[0], a[1], b[1], c[1], d[1], a[2], b[2], c[2], d[2], a[3], b[3], c[3],
         d[3],

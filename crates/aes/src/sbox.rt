@@ -1,5 +1,17 @@
-// The table of the S-box (FIPS 197, 5.1.1). proofs/SBoxTable.antt proves its rule at each of the 256 bytes.
-pub(crate) const SBOX: [u8; 256] = [
+// The S-box (FIPS 197, 5.1.1), read from a table. proofs/SBoxTable.antt proves its rule at each of the 256 bytes.
+#![tactic(auto, using(crate::proofs::SBoxTable::s_box_at))]
+
+ghost use Rattle.std.specs.Prelude.{◌≡◌};
+ghost use Rattle.aes.specs.SBox.{s_box};
+
+// The S-box of a byte.
+pub(crate) fn s_box(x: u8) -> u8
+    ensures { result ≡ s_box x }
+{
+    SBOX[x as usize]
+}
+
+static SBOX: [u8; 256] = [
     99, 124, 119, 123, 242, 107, 111, 197, 48, 1, 103, 43, 254, 215, 171, 118, 202, 130, 201, 125,
     250, 89, 71, 240, 173, 212, 162, 175, 156, 164, 114, 192, 183, 253, 147, 38, 54, 63, 247, 204,
     52, 165, 229, 241, 113, 216, 49, 21, 4, 199, 35, 195, 24, 150, 5, 154, 7, 18, 128, 226, 235,

@@ -1,38 +1,30 @@
 // The steps of a round (FIPS 197, 5.1): each takes the state by value and gives the next one.
-ghost use Rattle.std.specs.Prelude.{◌≡◌, [], ◌∷◌};
+ghost use Rattle.std.specs.Prelude.{◌≡◌};
 ghost use Rattle.aes.specs.State.{columns};
 ghost use Rattle.aes.specs.Steps.{sub_bytes, shift_rows, mix_columns, add_round_key, row_by, mix_column};
 ghost use Rattle.aes.specs.Cipher.{round_of};
-ghost use Rattle.aes.specs.Inner.{IsSBox};
 
 use crate::array::transpose;
 use crate::field::product;
 use crate::keys::{sub_word, xor_word};
+use crate::{State, Word};
 
 // The coefficients of MixColumns (5.1.3).
-const MIX: [[u8; 4]; 4] = [[2, 3, 1, 1], [1, 2, 3, 1], [1, 1, 2, 3], [3, 1, 1, 2]];
+const MIX: [Word; 4] = [[2, 3, 1, 1], [1, 2, 3, 1], [1, 1, 2, 3], [3, 1, 1, 2]];
 
-// 5.1.1: the S-box, which t holds, at each byte.
-pub(crate) fn sub_bytes(t: &[u8; 256], s: [[u8; 4]; 4]) -> [[u8; 4]; 4]
-    requires { IsSBox t.now }
+// 5.1.1: the S-box at each byte.
+pub(crate) fn sub_bytes(s: State) -> State
     ensures { result ≡ sub_bytes s }
 {
-    [
-        sub_word(t, s[0]),
-        sub_word(t, s[1]),
-        sub_word(t, s[2]),
-        sub_word(t, s[3]),
-    ]
+    s.map(sub_word)
 }
 
-// 5.1.2: row r is turned to the left by r places.
-pub(crate) fn shift_rows(s: [[u8; 4]; 4]) -> [[u8; 4]; 4]
+// 5.1.2: row r is turned to the left by r places, each by another number, so that it is written out.
+#[tactic(auto, unfolding(crate::specs::Steps::shift_rows))]
+pub(crate) fn shift_rows(s: State) -> State
     ensures { result ≡ shift_rows s }
 {
-    let a = s[0];
-    let b = s[1];
-    let c = s[2];
-    let d = s[3];
+    let [a, b, c, d] = s;
     [
         [a[0], a[1], a[2], a[3]],
         [b[1], b[2], b[3], b[0]],
@@ -41,49 +33,36 @@ pub(crate) fn shift_rows(s: [[u8; 4]; 4]) -> [[u8; 4]; 4]
     ]
 }
 
-// 5.1.3: a row of the matrix, a, by a column, x.
-fn row_by(a0: u8, a1: u8, a2: u8, a3: u8, x0: u8, x1: u8, x2: u8, x3: u8) -> u8
-    ensures { result ≡ row_by (a0 ∷ a1 ∷ a2 ∷ a3 ∷ []) (x0 ∷ x1 ∷ x2 ∷ x3 ∷ []) }
+// 5.1.3: a row of the matrix, a, by a column, x. Inlined, its products have a constant factor; without that a block takes many times as long.
+#[tactic(auto, unfolding(crate::specs::Steps::row_by))]
+#[inline(always)]
+fn row_by(a: Word, x: Word) -> u8
+    ensures { result ≡ row_by a x }
 {
-    product(a0, x0) ^ product(a1, x1) ^ product(a2, x2) ^ product(a3, x3)
+    product(a[0], x[0]) ^ product(a[1], x[1]) ^ product(a[2], x[2]) ^ product(a[3], x[3])
 }
 
-// 5.1.3: the matrix by a column.
-fn mix_column(x: [u8; 4]) -> [u8; 4]
+// 5.1.3: the matrix by a column. A closure for `map` would need a clause of its own, as it would in `add_round_key`.
+#[tactic(auto, unfolding(crate::specs::Steps::mix_column))]
+fn mix_column(x: Word) -> Word
     ensures { result ≡ mix_column x }
 {
-    let m = MIX;
-    let a = m[0];
-    let b = m[1];
-    let c = m[2];
-    let d = m[3];
-    let x0 = x[0];
-    let x1 = x[1];
-    let x2 = x[2];
-    let x3 = x[3];
-    [
-        row_by(a[0], a[1], a[2], a[3], x0, x1, x2, x3),
-        row_by(b[0], b[1], b[2], b[3], x0, x1, x2, x3),
-        row_by(c[0], c[1], c[2], c[3], x0, x1, x2, x3),
-        row_by(d[0], d[1], d[2], d[3], x0, x1, x2, x3),
-    ]
+    let [a, b, c, d] = MIX;
+    [row_by(a, x), row_by(b, x), row_by(c, x), row_by(d, x)]
 }
 
-// 5.1.3: the matrix by each column.
-pub(crate) fn mix_columns(s: [[u8; 4]; 4]) -> [[u8; 4]; 4]
+// 5.1.3: the matrix by each column. It is written out, since with `map` enciphering takes a tenth more time.
+#[tactic(auto, unfolding(crate::specs::State::columns, crate::specs::Steps::mix_columns))]
+pub(crate) fn mix_columns(s: State) -> State
     ensures { result ≡ mix_columns s }
 {
-    let t = transpose(s);
-    transpose([
-        mix_column(t[0]),
-        mix_column(t[1]),
-        mix_column(t[2]),
-        mix_column(t[3]),
-    ])
+    let [a, b, c, d] = transpose(s);
+    transpose([mix_column(a), mix_column(b), mix_column(c), mix_column(d)])
 }
 
 // 5.1.4: the round key, laid out as the state is, is added.
-pub(crate) fn add_round_key(s: [[u8; 4]; 4], k: [[u8; 4]; 4]) -> [[u8; 4]; 4]
+#[tactic(auto, unfolding(crate::specs::KeyExpansion::xor_word, crate::specs::State::columns, crate::specs::Steps::add_round_key))]
+pub(crate) fn add_round_key(s: State, k: State) -> State
     ensures { result ≡ add_round_key s (columns k) }
 {
     [
@@ -95,9 +74,9 @@ pub(crate) fn add_round_key(s: [[u8; 4]; 4], k: [[u8; 4]; 4]) -> [[u8; 4]; 4]
 }
 
 // 5.1: a round but the last.
-pub(crate) fn round(t: &[u8; 256], s: [[u8; 4]; 4], k: [[u8; 4]; 4]) -> [[u8; 4]; 4]
-    requires { IsSBox t.now }
+#[tactic(auto, unfolding(crate::specs::Cipher::round_of))]
+pub(crate) fn round(s: State, k: State) -> State
     ensures { result ≡ round_of s (columns k) }
 {
-    add_round_key(mix_columns(shift_rows(sub_bytes(t, s))), k)
+    add_round_key(mix_columns(shift_rows(sub_bytes(s))), k)
 }

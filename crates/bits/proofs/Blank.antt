@@ -1,21 +1,24 @@
 -- Bits that hold nothing: bytes whose bits from some place on are zeros are packed from the bits before it, and the other way round.
 use mathlib.Core.Path.{◌≡◌, refl, sym, ap, subst, ◌∙◌}
-use mathlib.Core.Bool.{Bool, true, false, cond, true≢false}
-use mathlib.Core.List.{List, [], ◌∷◌, ◌++◌}
+use mathlib.Core.Bool.{Bool, true, false, cond, ◌&&◌, true≢false}
+use mathlib.Core.List.{List, [], ◌∷◌, ◌++◌, append-nil}
 use Prim.Native.Nat.{ℕ, zero, suc, ◌+◌, ◌-◌, ◌*◌, ◌/◌, ◌%◌, ◌<◌, ◌≤◌}
 use native.Mathlib.Omega.{arith}
 use native.Mathlib.Decide.{dec_lt}
-use lib.ListN.{length, get_or, take, drop, length-take, take-append-drop, drop_of_length-le, get_or-eq_default}
-use lib.Seq.{get_or-drop, drop-drop, drop-cons, ext_get_or}
+use lib.ListN.{length, get_or, take, drop, length-take, take-append-drop, get_or-eq_default}
+use lib.Seq.{get_or-drop, drop-drop}
 use lib.Dec.{eqb}
 use borrow.Author.Tests.{eqb-true, eq-eqb}
+use Rattle.std.proofs.lemmas.Bool.{false_from_ne_true}
+use Rattle.std.proofs.Common.{nat_eq}
+use Rattle.std.specs.List.{list_all}
+use native.Mathlib.Nat.{mod-eq_of_lt}
 use Rattle.bits.specs.Bits.{bits_of, byte_of, pack, part, digits}
 use Rattle.bits.specs.Blank.{blank}
-use native.Mathlib.Numerals.{add-one}
-use Rattle.bits.proofs.Lists.{Small, Bytes, Alike, zeros, small_take}
-use Rattle.bits.proofs.Digits.{length_digits, digits_zero, digits_same}
+use Rattle.bits.proofs.Lists.{Small, Bytes, Alike, zeros, small_take, bytes_drop}
+use Rattle.bits.proofs.Digits.{length_digits, digits_zero, small_digits}
 use Rattle.bits.proofs.Parts.{small_part, short_part}
-use Rattle.bits.proofs.Packed.{length_bits, bits_one, bits_byte, bits_drop, small_bits, length_pack, pack_bits, pack_alike, bits_pack_at}
+use Rattle.bits.proofs.Packed.{length_bits, bits_one, bits_byte, bits_drop, small_bits, length_pack, pack_bits, pack_alike, bits_pack_at, byte_digits}
 
 split : {P : Type 0} (x : ℕ) (b : List ℕ) → cond (eqb x 0) (blank b) false ≡ true → (x ≡ 0 → blank b ≡ true → P) → P
 split {P} x b e f = go (eqb x 0) refl e
@@ -60,6 +63,10 @@ pack_blank k s n e =
 
 -- ---- the test goes by bytes: the rest of the first one, and then whole ones
 
+cond_and : (a b : Bool) → cond a b false ≡ (a && b)
+cond_and true b = refl
+cond_and false b = refl
+
 cond_cond : (a b c : Bool) → cond a (cond b c false) false ≡ cond (cond a b false) c false
 cond_cond true b c = refl
 cond_cond false b c = refl
@@ -73,13 +80,6 @@ blank_zeros : (n : ℕ) → blank (zeros n) ≡ true
 unfolding blank
 blank_zeros zero = refl
 blank_zeros (suc n) = blank_zeros n
-
-not_blank : (r : List ℕ) → (blank r ≡ true → ⊥) → blank r ≡ false
-not_blank r h = go (blank r) refl
-  where
-    go : (t : Bool) → blank r ≡ t → t ≡ false
-    go true e = absurd (h e)
-    go false e = refl
 
 -- a few bits and the byte that they make
 few_blank : (r : List ℕ) → Small r → length r ≤ 8 → byte_of r ≡ 0 → blank r ≡ true
@@ -96,53 +96,42 @@ few_blank r h few e =
 
 few_not : (r : List ℕ) → (byte_of r ≡ 0 → ⊥) → blank r ≡ false
 unfolding pack
-few_not r h = not_blank r (λ e. h (ap (λ (l : List ℕ). get_or l 0 0) (pack_alike 1 r [] (blank_at r e))))
+few_not r h = false_from_ne_true (blank r) (λ e. h (ap (λ (l : List ℕ). get_or l 0 0) (pack_alike 1 r [] (blank_at r e))))
 
-byte_not : (x : ℕ) → x < 256 → (x ≡ 0 → ⊥) → blank (digits 8 x) ≡ false
-byte_not x b h =
-    not_blank (digits 8 x)
-    (λ e. h (digits_same 8 x 0 b (omega arith)
-    (ext_get_or 0 (digits 8 x) (digits 8 0) (length_digits 8 x ∙ sym (length_digits 8 0))
-    (λ i _. blank_at (digits 8 x) e i ∙ sym (blank_at (digits 8 0) (ap blank (digits_zero 8) ∙ blank_zeros 8) i)))))
+few_is : (r : List ℕ) → Small r → length r ≤ 8 → blank r ≡ eqb (byte_of r) 0
+few_is r h few = go (eqb (byte_of r) 0) refl
+  where
+    go : (t : Bool) → eqb (byte_of r) 0 ≡ t → blank r ≡ t
+    go true e = few_blank r h few (eqb-true (byte_of r) 0 e)
+    go false e = few_not r (λ z. true≢false (sym (eq-eqb (byte_of r) 0 z) ∙ e))
 
-module _ (s : List ℕ) where
-  -- the rest of the byte that holds bit `from`
-  split_first : (from : ℕ) → drop from (bits_of s) ≡ part s from (8 - from % 8) ++ drop (8 * (from / 8 + 1)) (bits_of s)
-  unfolding part
-  split_first from =
-      let e : from + (8 - from % 8) ≡ 8 * (from / 8 + 1) = omega arith in
-      sym (take-append-drop (8 - from % 8) (drop from (bits_of s)))
-      ∙ ap (λ (l : List ℕ). take (8 - from % 8) (drop from (bits_of s)) ++ l) (drop-drop (8 - from % 8) from (bits_of s) ∙ ap (λ (k : ℕ). drop k (bits_of s)) e)
+byte_is : (x : ℕ) → x < 256 → blank (digits 8 x) ≡ eqb x 0
+byte_is x h =
+    few_is (digits 8 x) (small_digits 8 x) (omega (arith, length_digits 8 x))
+    ∙ ap (λ (y : ℕ). eqb y 0) (ap byte_of (sym (append-nil (digits 8 x))) ∙ byte_digits x [] ∙ mod-eq_of_lt h)
 
-  module _ (from : ℕ) (first : ℕ) (f : first ≡ byte_of (part s from (8 - from % 8))) where
-    few : length (part s from (8 - from % 8)) ≤ 8
-    few = omega (arith, short_part s from (8 - from % 8))
+bytes_is : (s : List ℕ) → Bytes s → blank (bits_of s) ≡ list_all (λ x. nat_eq x 0) s
+unfolding bits_of blank
+bytes_is [] h = refl
+bytes_is (x ∷ s) h =
+    ap blank (bits_byte x s)
+    ∙ blank_append (digits 8 x) (bits_of s)
+    ∙ (λ i. cond (byte_is x (h 0) i) (bytes_is s (λ j. h (suc j)) i) false)
+    ∙ cond_and (eqb x 0) (list_all (λ y. nat_eq y 0) s)
 
-    pub first_blank : first ≡ 0 → blank (drop (8 * (from / 8 + 1)) (bits_of s)) ≡ blank (drop from (bits_of s))
-    first_blank e =
-        sym (ap blank (split_first from) ∙ blank_append (part s from (8 - from % 8)) (drop (8 * (from / 8 + 1)) (bits_of s))
-        ∙ ap (λ (t : Bool). cond t (blank (drop (8 * (from / 8 + 1)) (bits_of s))) false) (few_blank (part s from (8 - from % 8)) (small_part s from (8 - from % 8)) few (sym f ∙ e)))
-
-    pub first_not : (first ≡ 0 → ⊥) → false ≡ blank (drop from (bits_of s))
-    first_not h =
-        sym (ap blank (split_first from) ∙ blank_append (part s from (8 - from % 8)) (drop (8 * (from / 8 + 1)) (bits_of s))
-        ∙ ap (λ (t : Bool). cond t (blank (drop (8 * (from / 8 + 1)) (bits_of s))) false) (few_not (part s from (8 - from % 8)) (λ e. h (f ∙ e))))
-
-  module _ (i : ℕ) (lt : i < length s) where
-    byte_split : blank (drop (8 * i) (bits_of s)) ≡ cond (blank (digits 8 (get_or s i 0))) (blank (drop (8 * (i + 1)) (bits_of s))) false
-    byte_split =
-        let e : drop (8 * i) (bits_of s) ≡ digits 8 (get_or s i 0) ++ drop (8 * (i + 1)) (bits_of s) =
-        bits_drop i s ∙ ap bits_of (drop-cons s i 0 lt) ∙ bits_byte (get_or s i 0) (drop (suc i) s)
-        ∙ ap (λ (l : List ℕ). digits 8 (get_or s i 0) ++ l) (sym (bits_drop (suc i) s) ∙ ap (λ (k : ℕ). drop (8 * k) (bits_of s)) (sym (add-one i))) in
-        ap blank e ∙ blank_append (digits 8 (get_or s i 0)) (drop (8 * (i + 1)) (bits_of s))
-
-    pub next_blank : get_or s i 0 ≡ 0 → blank (drop (8 * (i + 1)) (bits_of s)) ≡ blank (drop (8 * i) (bits_of s))
-    next_blank e =
-        sym (byte_split ∙ ap (λ (t : Bool). cond t (blank (drop (8 * (i + 1)) (bits_of s))) false) (ap (λ (x : ℕ). blank (digits 8 x)) e ∙ ap blank (digits_zero 8) ∙ blank_zeros 8))
-
-    pub next_not : get_or s i 0 < 256 → (get_or s i 0 ≡ 0 → ⊥) → false ≡ blank (drop (8 * i) (bits_of s))
-    next_not b h = sym (byte_split ∙ ap (λ (t : Bool). cond t (blank (drop (8 * (i + 1)) (bits_of s))) false) (byte_not (get_or s i 0) b h))
-
-  pub end_blank : (i : ℕ) → length s ≤ i → true ≡ blank (drop (8 * i) (bits_of s))
-  unfolding blank
-  end_blank i h = sym (ap blank (drop_of_length-le (bits_of s) {i = 8 * i} (rw (length_bits s) (omega arith))))
+-- the bits from bit `from` on: those in the byte that holds it, as `read` gives them, and whole bytes
+pub blank_is : (s r : List ℕ) (from : ℕ) → Bytes s → r ≡ pack 16 (part s from (8 - from % 8))
+    → blank (drop from (bits_of s)) ≡ (nat_eq (get_or r 0 0) 0 && list_all (λ x. nat_eq x 0) (drop (from / 8 + 1) s))
+unfolding part pack
+blank_is s r from h f =
+    let n : ℕ = 8 - from % 8 in
+    let p : List ℕ = part s from n in
+    let e : from + n ≡ 8 * (from / 8 + 1) = omega arith in
+    let first : byte_of p ≡ get_or r 0 0 = ap (λ (l : List ℕ). get_or l 0 0) (sym f) in
+    let rest : drop n (drop from (bits_of s)) ≡ bits_of (drop (from / 8 + 1) s) =
+    drop-drop n from (bits_of s) ∙ ap (λ (k : ℕ). drop k (bits_of s)) e ∙ bits_drop (from / 8 + 1) s in
+    ap blank (sym (take-append-drop n (drop from (bits_of s))))
+    ∙ blank_append p (drop n (drop from (bits_of s)))
+    ∙ (λ i. cond ((few_is p (small_part s from n) (omega (arith, short_part s from n)) ∙ ap (λ (x : ℕ). eqb x 0) first) i)
+    ((ap blank rest ∙ bytes_is (drop (from / 8 + 1) s) (bytes_drop s (from / 8 + 1) h)) i) false)
+    ∙ cond_and (eqb (get_or r 0 0) 0) (list_all (λ x. nat_eq x 0) (drop (from / 8 + 1) s))

@@ -6,8 +6,9 @@ use native.Mathlib.Omega.{arith}
 use borrow.Author.Tests.{le-leb, lt-leb}
 use lib.ListN.{length, take, drop, length-append, length-take, length-drop, drop_of_length-le, take-append-drop}
 use lib.Seq.{take-take, take-append-le, drop-append-le, drop-append-add, drop-drop, length-take-le, drop_at}
+use Rattle.std.proofs.lemmas.List.{drop-take}
 use Rattle.bits.specs.Bits.{bits_of, pack, part, laid, wrote}
-use Rattle.bits.proofs.Lists.{Small, Bytes, small_take, small_append, bytes_drop, bytes_append, drop_take}
+use Rattle.bits.proofs.Lists.{Small, Bytes, small_take, small_append, bytes_drop, bytes_append}
 use Rattle.bits.proofs.Packed.{length_bits, small_bits, length_pack, bytes_pack, bits_pack, bits_append, bits_drop, pack_append, pack_bits_take, pack_front, pack_take, pack_none, pack_rest, drop_pack}
 
 -- the bytes that n bits fill, the last one in part
@@ -88,7 +89,7 @@ laid_from d j i r hd le =
     let before : pack j (take (8 * j + i) b ++ r) ≡ take j d = pack_front j (take (8 * j + i) b) r n ∙ pack_take j (8 * j + i) b (omega arith) ∙ pack_bits_take j d hd le in
     let after : drop (8 * j) (take (8 * j + i) b ++ r) ≡ take i (bits_of (drop j d)) ++ r =
     drop-append-le (8 * j) (take (8 * j + i) b) r n
-    ∙ ap (λ (l : List ℕ). l ++ r) (drop_take (8 * j) i b ∙ ap (take i) (bits_drop j d)) in
+    ∙ ap (λ (l : List ℕ). l ++ r) (drop-take (8 * j) i b ∙ ap (take i) (bits_drop j d)) in
     laid_is d (8 * j + i) r (j + m) (omega arith)
     ∙ ap (λ (l : List ℕ). l ++ drop (j + m) d) (pack_append (j + m) j m (take (8 * j + i) b ++ r) refl)
     ∙ (λ k. (before k ++ pack m (after k)) ++ sym (drop-drop m j d) k)
@@ -100,10 +101,11 @@ unfolding pack
 laid_nothing d = laid_start d []
 
 -- at the end of a byte no bits change nothing; elsewhere its low bits become 0
-pub laid_none : (d : List ℕ) (j : ℕ) → Bytes d → j ≤ length d → laid d (8 * j) [] ≡ d
-laid_none d j hd le =
-    let e : 8 * j ≡ 8 * j + 0 = omega arith in
-    ap (λ (i : ℕ). laid d i []) e ∙ laid_from d j 0 [] hd le ∙ ap (λ (l : List ℕ). take j d ++ l) (laid_nothing (drop j d)) ∙ take-append-drop j d
+pub laid_none : (d : List ℕ) (m : ℕ) → Bytes d → m ≤ 8 * length d → m % 8 ≡ 0 → laid d m [] ≡ d
+laid_none d m hd le z =
+    let j : ℕ = m / 8 in
+    let e : m ≡ 8 * j + 0 = omega arith in
+    ap (λ (i : ℕ). laid d i []) e ∙ laid_from d j 0 [] hd (omega arith) ∙ ap (λ (l : List ℕ). take j d ++ l) (laid_nothing (drop j d)) ∙ take-append-drop j d
 
 -- ---- the parts of a buffer in which bits are laid: these bits, those before them, and those of later bytes
 
@@ -111,7 +113,7 @@ pub part_laid : (d : List ℕ) (i : ℕ) (r : List ℕ) → Small r → i ≤ 8 
 unfolding part
 part_laid d i r hr h =
     let n : length (take i (bits_of d)) ≡ i = length-take-le i (bits_of d) (rw length_bits h) in
-    sym (drop_take i (length r) (bits_of (laid d i r))) ∙ ap (drop i) (bits_laid d i r hr h) ∙ drop_at (take i (bits_of d)) r i n
+    sym (drop-take i (length r) (bits_of (laid d i r))) ∙ ap (drop i) (bits_laid d i r hr h) ∙ drop_at (take i (bits_of d)) r i n
 
 pub part_before : (d : List ℕ) (i : ℕ) (r : List ℕ) (f n : ℕ) → Small r → i ≤ 8 * length d → f + n ≤ i → part (laid d i r) f n ≡ part d f n
 unfolding part
@@ -122,7 +124,7 @@ part_before d i r f n hr h le =
     ∙ ap (take (f + n)) (bits_laid d i r hr h)
     ∙ take-append-le (f + n) (take i (bits_of d)) r (omega arith)
     ∙ take-take (f + n) i (bits_of d) le in
-    sym (drop_take f n (bits_of (laid d i r))) ∙ ap (drop f) same ∙ drop_take f n (bits_of d)
+    sym (drop-take f n (bits_of (laid d i r))) ∙ ap (drop f) same ∙ drop-take f n (bits_of d)
 
 pub part_after : (d : List ℕ) (i : ℕ) (r : List ℕ) (f n : ℕ) → (i + length r + 7) / 8 ≤ f / 8 → part (laid d i r) f n ≡ part d f n
 unfolding part

@@ -7,7 +7,7 @@ use Prim.Native.Nat.{ℕ, zero, suc, ◌+◌, ◌≤◌, ◌<◌}
 use native.Mathlib.Decide.{dec_lt}
 use native.Mathlib.Omega.{arith}
 use lib.ListN.{length, get_or, take, drop, replicate, length-take, drop_of_length-le, get_or-eq_default}
-use lib.Seq.{take-nil, get_or-take, get_or-drop, drop-cons}
+use lib.Seq.{get_or-take, get_or-drop, drop-cons}
 
 -- every element is below n
 abbrev pub Under : ℕ → List ℕ → Type 0
@@ -24,22 +24,8 @@ Bytes s = Under 256 s
 abbrev pub zeros : ℕ → List ℕ
 zeros n = replicate n 0
 
-pub drop_zeros : (k j m : ℕ) → m ≡ k + j → drop k (zeros m) ≡ zeros j
-drop_zeros zero j m e = let q : m ≡ j = omega arith in rw q
-drop_zeros (suc k) j zero e = absurd (omega arith)
-drop_zeros (suc k) j (suc m) e = drop_zeros k j m (omega arith)
-
 pub drop_first : (j : ℕ) (l : List ℕ) → get_or (drop j l) 0 0 ≡ get_or l j 0
 drop_first j l = let z : j + 0 ≡ j = omega arith in get_or-drop j l 0 0 ∙ ap (λ (n : ℕ). get_or l n 0) z
-
-drop_of_take : (k n m : ℕ) (l : List ℕ) → k ≡ n + m → drop n (take k l) ≡ take m (drop n l)
-drop_of_take k zero m l e = let q : k ≡ m = omega arith in rw q
-drop_of_take zero (suc n) m l e = absurd (omega arith)
-drop_of_take (suc k) (suc n) m [] e = sym (take-nil m)
-drop_of_take (suc k) (suc n) m (x ∷ l) e = drop_of_take k n m l (omega arith)
-
-pub drop_take : (n m : ℕ) (l : List ℕ) → drop n (take (n + m) l) ≡ take m (drop n l)
-drop_take n m l = drop_of_take (n + m) n m l refl
 
 module _ (n : ℕ) (pos : 0 < n) where
   under_drop : (r : List ℕ) (k : ℕ) → Under n r → Under n (drop k r)
@@ -84,9 +70,6 @@ small_one = under_one 2 (omega arith)
 
 pub bytes_drop : (s : List ℕ) (k : ℕ) → Bytes s → Bytes (drop k s)
 bytes_drop = under_drop 256 (omega arith)
-
-pub bytes_take : (k : ℕ) (s : List ℕ) → Bytes s → Bytes (take k s)
-bytes_take = under_take 256 (omega arith)
 
 pub bytes_append : (r s : List ℕ) → Bytes r → Bytes s → Bytes (r ++ s)
 bytes_append = under_append 256 (omega arith)

@@ -4,10 +4,10 @@ use mathlib.Core.Path.{◌≡◌, refl, sym, ap, ◌∙◌}
 use mathlib.Core.List.{List, [], ◌∷◌, ◌++◌, append_assoc, append-nil}
 use Prim.Native.Nat.{ℕ, suc, ◌+◌, ◌-◌, ◌*◌, ◌/◌, ◌%◌, ◌^◌, ◌≤◌, ◌<◌}
 use native.Mathlib.Nat.{mod-eq_of_lt}
-use native.Mathlib.Numerals.{add-one}
 use native.Mathlib.Omega.{arith}
-use lib.ListN.{length, get_or, take, drop, set, length-drop, take-append-drop}
-use lib.Seq.{take-suc-set, drop-set-lt, take-append-le, drop-append-le, drop_at, drop-nil, drop-drop}
+use lib.ListN.{length, get_or, take, drop, set, length-drop, length-set, get_or-eq_default}
+use lib.Seq.{take-length, take-append-le, drop-append-le, drop_at, drop-nil, drop-drop}
+use Rattle.std.proofs.lemmas.List.{take_more_set}
 use lib.Pow.{shr_le}
 use Rattle.bits.specs.Bits.{bits_of, pack, digits}
 use Rattle.bits.proofs.Lists.{Bytes, Alike, zeros, drop_first, alike_append, alike_zeros, bytes_drop}
@@ -78,31 +78,36 @@ coming_from s j r few i =
 
 -- ---- a buffer filled octet by octet
 
--- the buffer d with its bytes from i up to last made of the bits r
-abbrev pub filled : List ℕ → ℕ → ℕ → List ℕ → List ℕ
-filled d i last r = take i d ++ (pack (last - i) r ++ drop last d)
+-- the buffer d with its bytes from i on made of the bits r
+abbrev pub filled : List ℕ → ℕ → List ℕ → List ℕ
+filled d i r = take i d ++ pack (length d - i) r
 
 -- all octets
-pub fill_done : (d : List ℕ) (i last : ℕ) (r : List ℕ) → i ≡ last → filled d i last r ≡ d
+pub fill_done : (d : List ℕ) (i : ℕ) (r : List ℕ) → i ≡ length d → filled d i r ≡ d
 unfolding pack
-fill_done d i last r e = let z : last - i ≡ 0 = omega arith in rw (z, e) (take-append-drop last d)
+fill_done d i r e = let z : length d - i ≡ 0 = omega arith in rw (z, e) (append-nil (take (length d) d) ∙ take-length d)
 
 -- one octet more
-pub fill_octet : (d s : List ℕ) (i last k q top low v : ℕ) → i < last → last ≤ length d → q ≤ 8 → Bytes s
-    → low ≡ get_or s k 0 → v ≡ (top * 256 + low) / 2 ^ q % 256
-    → filled (set d i v) (i + 1) last (coming q low (drop (k + 1) s)) ≡ filled d i last (coming q top (drop k s))
-fill_octet d s i last k q top low v lt fits few bytes el ev =
-    let n : last - i ≡ suc (last - (i + 1)) = omega arith in
-    let first : get_or (drop k s) 0 0 ≡ low = drop_first k s ∙ sym el in
-    let next : pack (last - i) (coming q top (drop k s)) ≡ v ∷ pack (last - (i + 1)) (coming q low (drop (k + 1) s)) =
-    ap (λ (j : ℕ). pack j (coming q top (drop k s))) n
-    ∙ next_octet q top (drop k s) (last - (i + 1)) few (bytes_drop s k bytes)
-    ∙ (λ j. (top * 256 + first j) / 2 ^ q % 256 ∷ pack (last - (i + 1)) (coming q (first j) (drop-drop 1 k s j)))
-    ∙ ap (λ (x : ℕ). x ∷ pack (last - (i + 1)) (coming q low (drop (k + 1) s))) (sym ev) in
-    (λ j. (ap (λ (m : ℕ). take m (set d i v)) (add-one i) ∙ take-suc-set d i v (omega arith)) j
-    ++ (pack (last - (i + 1)) (coming q low (drop (k + 1) s)) ++ drop-set-lt last d i v lt j))
-    ∙ append_assoc (take i d) (v ∷ []) (pack (last - (i + 1)) (coming q low (drop (k + 1) s)) ++ drop last d)
-    ∙ ap (λ (l : List ℕ). take i d ++ (l ++ drop last d)) (sym next)
+pub fill_octet : (d s : List ℕ) (i q top low v : ℕ) → i < length d → q ≤ 8 → Bytes s
+    → low ≡ get_or s i 0 → v ≡ (top * 256 + low) / 2 ^ q % 256
+    → filled (set d i v) (i + 1) (coming q low (drop (i + 1) s)) ≡ filled d i (coming q top (drop i s))
+fill_octet d s i q top low v lt few bytes el ev =
+    let n : length d - i ≡ suc (length d - (i + 1)) = omega arith in
+    let m : length (set d i v) - (i + 1) ≡ length d - (i + 1) = simp length-set in
+    let first : get_or (drop i s) 0 0 ≡ low = drop_first i s ∙ sym el in
+    let next : pack (length d - i) (coming q top (drop i s)) ≡ v ∷ pack (length d - (i + 1)) (coming q low (drop (i + 1) s)) =
+    ap (λ (j : ℕ). pack j (coming q top (drop i s))) n
+    ∙ next_octet q top (drop i s) (length d - (i + 1)) few (bytes_drop s i bytes)
+    ∙ (λ j. (top * 256 + first j) / 2 ^ q % 256 ∷ pack (length d - (i + 1)) (coming q (first j) (drop-drop 1 i s j)))
+    ∙ ap (λ (x : ℕ). x ∷ pack (length d - (i + 1)) (coming q low (drop (i + 1) s))) (sym ev) in
+    (λ j. take_more_set d i v lt j ++ pack (m j) (coming q low (drop (i + 1) s)))
+    ∙ append_assoc (take i d) (v ∷ []) (pack (length d - (i + 1)) (coming q low (drop (i + 1) s)))
+    ∙ ap (λ (l : List ℕ). take i d ++ l) (sym next)
+
+-- and where the bytes have run out
+pub fill_zero : (d s : List ℕ) (i q top v : ℕ) → i < length d → length s ≤ i → q ≤ 8 → Bytes s → v ≡ (top * 256 + 0) / 2 ^ q % 256
+    → filled (set d i v) (i + 1) (coming q 0 (drop (i + 1) s)) ≡ filled d i (coming q top (drop i s))
+fill_zero d s i q top v lt past few bytes ev = fill_octet d s i q top 0 v lt few bytes (sym (get_or-eq_default s 0 past)) ev
 
 -- the first e bits of a byte are the digits of its upper part
 top_here : (s : List ℕ) (e : ℕ) → Bytes s → e ≤ 8 → e ≤ 8 * length s → digits e ((0 * 256 + get_or s 0 0) / 2 ^ (8 - e) % 256) ≡ take e (bits_of s)

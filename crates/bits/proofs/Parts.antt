@@ -6,8 +6,9 @@ use Prim.Native.Nat.{ℕ, ◌+◌, ◌*◌, ◌≤◌, ◌<◌}
 use native.Mathlib.Omega.{arith}
 use lib.ListN.{length, get_or, take, drop, length-take, length-drop, take-append-drop}
 use lib.Seq.{take-add, drop-drop, get_or-take, get_or-drop, take-take, take-append-le, ext_get_or}
+use Rattle.std.proofs.lemmas.List.{drop-take}
 use Rattle.bits.specs.Bits.{bits_of, pack, part}
-use Rattle.bits.proofs.Lists.{Small, Bytes, small_take, small_drop, bytes_drop, drop_take}
+use Rattle.bits.proofs.Lists.{Small, Bytes, small_take, small_drop, bytes_drop}
 use Rattle.bits.proofs.Packed.{length_bits, small_bits, bits_drop, bits_append, length_pack, bits_pack, pack_take, pack_bits_take}
 
 pub part_is : (s : List ℕ) (i n : ℕ) → part s i n ≡ take n (drop i (bits_of s))
@@ -51,7 +52,7 @@ take_part s i n k h = take-take k n (drop i (bits_of s)) h
 -- the part from r on of a part from 0 on
 pub part_drop : (q : List ℕ) (r n : ℕ) → drop r (part q 0 (r + n)) ≡ part q r n
 unfolding part
-part_drop q r n = drop_take r n (bits_of q)
+part_drop q r n = drop-take r n (bits_of q)
 
 -- from a byte on
 pub part_from : (s : List ℕ) (start n : ℕ) → part (drop start s) 0 n ≡ part s (8 * start) n
@@ -68,9 +69,9 @@ pack_part s i n k le fit =
 pub part_pack : (n : ℕ) (x : List ℕ) (i m : ℕ) → Small x → length x ≤ 8 * n → i + m ≤ length x → part (pack n x) i m ≡ take m (drop i x)
 unfolding part
 part_pack n x i m h le fit =
-    sym (drop_take i m (bits_of (pack n x)))
+    sym (drop-take i m (bits_of (pack n x)))
     ∙ ap (drop i) (sym (take-take (i + m) (length x) (bits_of (pack n x)) fit) ∙ ap (take (i + m)) (bits_pack n x h le))
-    ∙ drop_take i m x
+    ∙ drop-take i m x
 
 -- bits packed and stored from byte a on are the bits from there on
 pub packed_part : (s r : List ℕ) (a k : ℕ) → Small r → length r ≤ 8 * k → a + k ≤ length s → ((j : ℕ) → j < k → get_or s (a + j) 0 ≡ get_or (pack k r) j 0)

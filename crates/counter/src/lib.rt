@@ -13,6 +13,7 @@ pub struct Position {
 }
 
 // The bit r k.
+#[tactic(auto, using(bits::proofs::Packed::small_bits))]
 fn r(c: [u8; 16], k: usize) -> u8
     requires { k < 128 }
     ensures { (result ≡ r (bits_of c) k) × (result < 2) }
@@ -21,6 +22,7 @@ fn r(c: [u8; 16], k: usize) -> u8
 }
 
 // The new r127.
+#[tactic(auto, unfolding(crate::specs::Counter::feedback))]
 fn feedback(c: [u8; 16]) -> u8
     ensures { (result ≡ feedback (bits_of c)) × (result < 2) }
 {
@@ -28,6 +30,7 @@ fn feedback(c: [u8; 16]) -> u8
 }
 
 // One step: r127 to r1 lie one place down, under the new r127.
+#[tactic(auto, using(crate::proofs::Laws::wrote_stepped))]
 pub fn step(c: [u8; 16]) -> [u8; 16]
     ensures { result ≡ stepped_bytes c }
 {
@@ -37,37 +40,30 @@ pub fn step(c: [u8; 16]) -> [u8; 16]
     next
 }
 
-// The position of the keystream bit after the one at p.
-pub fn onward(p: Position) -> Position
-    ensures { result ≡ advanced p }
-{
-    let counter = p.counter;
-    let place = p.place;
-    if place < 127 {
-        Position {
-            counter,
-            place: place + 1,
-        }
-    } else {
-        Position {
-            counter: step(counter),
-            place: 0,
+impl Position {
+    // The position of the keystream bit after this one's.
+    #[tactic(auto, using(crate::proofs::Laws::advanced_in_block, crate::proofs::Laws::advanced_at_end))]
+    pub fn onward(self) -> Position
+        ensures { result ≡ advanced self }
+    {
+        let Position { counter, place } = self;
+        if place < 127 {
+            Position {
+                counter,
+                place: place + 1,
+            }
+        } else {
+            Position {
+                counter: step(counter),
+                place: 0,
+            }
         }
     }
-}
 
-// The position is moved on where it lies.
-pub fn advance(p: &mut Position)
-    ensures { p.new ≡ advanced p.old }
-{
-    *p = onward(*p);
-}
-
-// The same for a position by value: it lies in a local, which is lent.
-pub fn moved_on(p: Position) -> Position
-    ensures { result ≡ advanced p }
-{
-    let mut here = p;
-    advance(&mut here);
-    here
+    // The position is moved on where it lies.
+    pub fn advance(&mut self)
+        ensures { self.new ≡ advanced self.old }
+    {
+        *self = self.onward();
+    }
 }

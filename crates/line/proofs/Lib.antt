@@ -1,9 +1,8 @@
 pub mod Records
-pub mod Window
+pub mod WindowBits
 pub mod Scanning
 pub mod Sums
 pub mod Stretching
 pub mod Steady
 pub mod Running
-pub mod Replies
 pub mod Passing

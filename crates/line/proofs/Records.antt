@@ -27,7 +27,7 @@ use Rattle.counter.specs.Counter.{stepped_bytes}
 use Rattle.line.specs.declared.record.Line.{Line}
 use Rattle.line.specs.View.{box, aes, settings, rule_of, view, holding}
 use Rattle.line.specs.Tests.{due_in, most_in, faulty}
-use Rattle.line.specs.Inner.{Good}
+use Rattle.line.specs.Good.{Good}
 
 -- ---- the two ways of saying that all are bits
 

@@ -14,9 +14,10 @@ use Rattle.bits.proofs.Parts.{small_part, length_part, part_none, part_split}
 use Rattle.bits.proofs.Laid.{laid_laid, length_laid}
 use Rattle.aes.specs.Cipher.{aes128}
 use Rattle.line.specs.declared.record.Line.{Line}
-use Rattle.line.specs.declared.stretch.Going.{Going}
+use Rattle.line.specs.declared.going.Going.{Going}
 use Rattle.line.specs.View.{rule_of, view, holding}
-use Rattle.line.specs.Inner.{Good, Ready, Room, Ran}
+use Rattle.line.specs.Good.{Good}
+use Rattle.line.specs.Inner.{Room, Ran}
 use Rattle.line.proofs.Records.{bits_from_small, holds, view_ran}
 
 pub small_outs : (G : Generator) (S : Settings) (t : State G.State) (bs : List ℕ) → Small (outs (rule G S) t bs)
@@ -31,7 +32,7 @@ module _ (s d : List ℕ) (f : ℕ) (g : Going) where
   length_made : (k : ℕ) → f + k ≤ 8 * length s → length (made k) ≡ k
   length_made k h = length_outs (rule_of g.line) (view g.line) (part s f k) ∙ length_part s f k h
 
-  module _ (k : ℕ) (h : Going) (e : List ℕ) (a : Ran s d f k g h e) (ready : Ready g) (fit : f + k ≤ 8 * length s) (room : f + k ≤ 8 * length d) where
+  module _ (k : ℕ) (h : Going) (e : List ℕ) (a : Ran s d f k g h e) (fit : f + k ≤ 8 * length s) (room : f + k ≤ 8 * length d) where
     pub same_length : length e ≡ length d
     same_length = ap length a.out ∙ length_laid d f (made k) (rw (length_made k fit) room)
 
@@ -49,10 +50,9 @@ module _ (s d : List ℕ) (f : ℕ) (g : Going) where
         let R = rule_of g.line in
         let t : State (Position (List ℕ)) = after R (view g.line) (part s f k) in
         let p : List ℕ = part s (f + k) m in
-        let seen : view (holding g.line t) ≡ t = view_ran g.line ready.good (part s f k) (bits_from_small (part s f k) (small_part s f k)) in
+        let seen : view (holding g.line t) ≡ t = view_ran g.line g.good (part s f k) (bits_from_small (part s f k) (small_part s f k)) in
         let all : part s f (k + m) ≡ part s f k ++ p = part_split s f k m in
         record {
-          ready = b.ready;
           line = b.line
               ∙ ap (λ (u : Line). holding u (after (rule_of u) (view u) p)) a.line
               ∙ ap (λ (u : State (Position (List ℕ))). holding g.line (after R u p)) seen
@@ -65,39 +65,33 @@ module _ (s d : List ℕ) (f : ℕ) (g : Going) where
         }
 
 -- no bits yet
-pub ran_none : (s d : List ℕ) (f k : ℕ) (g : Going) → k ≡ 0 → Ready g → laid d f [] ≡ d → Ran s d f k g g d
-ran_none s d f k g z ready clean =
+pub ran_none : (s d : List ℕ) (f k : ℕ) (g : Going) → k ≡ 0 → laid d f [] ≡ d → Ran s d f k g g d
+ran_none s d f k g z clean =
     let e : [] ≡ part s f k = sym (part_none s f k z) in
     record {
-      ready = ready;
-      line = sym (holds g.line ready.good) ∙ ap (λ (b : List ℕ). holding g.line (after (rule_of g.line) (view g.line) b)) e;
+      line = sym (holds g.line g.good) ∙ ap (λ (b : List ℕ). holding g.line (after (rule_of g.line) (view g.line) b)) e;
       out = sym clean ∙ ap (λ (b : List ℕ). laid d f (outs (rule_of g.line) (view g.line) b)) e;
     }
 
 -- a line with the keystream block of its counter
-abbrev pub going : Line → Going
-going s = record { line = s; block = aes128 s.key s.position.counter }
-
-pub going_ready : (s : Line) → Good s → Ready (going s)
-going_ready s g = record { good = g; block = refl }
+abbrev pub going : (s : Line) → Good s → Going
+going s g = record { line = s; block = aes128 s.key s.position.counter; good = g; block_is = refl }
 
 -- in the middle of a run of n bits of s into d from bit f on: i is the next bit, h the line with its block, e the output
 pub record Along (s d : List ℕ) (f n : ℕ) (g : Going) (end : ℕ) (e : List ℕ) (h : Going) (i : ℕ) : Type 0 where
   pub whole : end ≡ f + n
   pub low : f ≤ i
   pub high : i ≤ end
-  pub first : Ready g
   pub room : Room s d f n
   pub ran : Ran s d f (i - f) g h e
 
-pub start : (s d : List ℕ) (f n : ℕ) (g : Going) (end : ℕ) → end ≡ f + n → Ready g → Room s d f n → Along s d f n g end d g f
-start s d f n g end w ready room = record {
+pub start : (s d : List ℕ) (f n : ℕ) (g : Going) (end : ℕ) → end ≡ f + n → Room s d f n → Along s d f n g end d g f
+start s d f n g end w room = record {
   whole = w;
   low = omega arith;
   high = omega arith;
-  first = ready;
   room = room;
-  ran = ran_none s d f (f - f) g (omega arith) ready room.clean;
+  ran = ran_none s d f (f - f) g (omega arith) room.clean;
 }
 
 module _ (s d : List ℕ) (f n : ℕ) (g : Going) (end : ℕ) (e : List ℕ) (h : Going) (i : ℕ) (a : Along s d f n g end e h i) where
@@ -111,30 +105,29 @@ module _ (s d : List ℕ) (f n : ℕ) (g : Going) (end : ℕ) (e : List ℕ) (h 
   roomy = omega (arith, a.low, a.high, a.whole, a.room.room)
 
   pub same : length e ≡ length d
-  same = same_length s d f g (i - f) h e a.ran a.first fit roomy
+  same = same_length s d f g (i - f) h e a.ran fit roomy
 
   pub room_on : Room s e i (end - i)
   room_on = record {
     few = omega (arith, a.whole, a.high, a.room.few);
     bits = omega (arith, a.whole, a.high, a.room.bits);
     room = omega (arith, a.whole, a.high, same, a.room.room);
-    clean = subst (λ (k : ℕ). laid e k [] ≡ e) here (clean_on s d f g (i - f) h e a.ran a.first fit roomy);
+    clean = subst (λ (k : ℕ). laid e k [] ≡ e) here (clean_on s d f g (i - f) h e a.ran fit roomy);
   }
 
   joined : (k : ℕ) (r : Going) (e' : List ℕ) → Ran s e i k h r e' → Ran s d f (i - f + k) g r e'
-  joined k r e' q = ran_on s d f g (i - f) h e a.ran a.first fit roomy k r e' (subst (λ (j : ℕ). Ran s e j k h r e') (sym here) q)
+  joined k r e' q = ran_on s d f g (i - f) h e a.ran fit roomy k r e' (subst (λ (j : ℕ). Ran s e j k h r e') (sym here) q)
 
   -- k bits on
-  pub ahead : (k : ℕ) (r : Going) (e' : List ℕ) → i + k ≤ end → Ran s e i k h r e' → Along s d f n g end e' r (i + k)
-  ahead k r e' le q =
-      let m : i - f + k ≡ i + k - f = omega (arith, a.low) in
+  pub ahead : (k j : ℕ) (r : Going) (e' : List ℕ) → j ≡ i + k → j ≤ end → Ran s e i k h r e' → Along s d f n g end e' r j
+  ahead k j r e' is le q =
+      let m : i - f + k ≡ j - f = omega (arith, a.low, is) in
       record {
         whole = a.whole;
-        low = omega (arith, a.low);
+        low = omega (arith, a.low, is);
         high = le;
-        first = a.first;
         room = a.room;
-        ran = subst (λ (j : ℕ). Ran s d f j g r e') m (joined k r e' q);
+        ran = subst (λ (m : ℕ). Ran s d f m g r e') m (joined k r e' q);
       }
 
   pub stop : end ≤ i → Ran s d f n g h e

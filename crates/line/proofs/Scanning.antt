@@ -1,20 +1,22 @@
 -- The scanner's loop: what it has still to scan, with the bits that it has scanned, is what there is to scan.
-use mathlib.Core.Path.{◌≡◌, sym, ap, subst, ◌∙◌}
-use mathlib.Core.Bool.{true, false}
+use mathlib.Core.Path.{◌≡◌, sym, ap, ◌∙◌}
+use mathlib.Core.Bool.{Bool, true, false, cond}
+use lib.Dec.{eqb}
 use mathlib.Core.List.{List, [], ◌∷◌}
-use Prim.Native.Nat.{ℕ, suc, ◌+◌, ◌*◌, ◌%◌, ◌^◌, ◌<◌, ◌≤◌}
+use Prim.Native.Nat.{ℕ, suc, ◌+◌, ◌<◌, ◌≤◌}
 use native.Mathlib.Numerals.{add-one}
 use native.Mathlib.Omega.{arith}
 use lib.ListN.{length, get_or, take, drop, length-take, drop_of_length-le}
 use lib.Seq.{drop-cons, get_or-take}
-use lib.Pow.{pow_mono, pow-add}
 use Rattle.mode.specs.Scan.{Scan, more, scan}
 use Rattle.mode.proofs.Scans.{scan_none}
 use Rattle.bits.specs.Bits.{bits_of, digits}
 use Rattle.bits.proofs.Digits.{no_digits}
 use Rattle.bits.proofs.Packed.{length_bits, small_bits}
 use Rattle.line.specs.Inner.{within, Found}
-use Rattle.line.proofs.Window.{scan_few, scan_hit, scan_miss}
+use Rattle.line.specs.declared.window.Window.{Window}
+use Rattle.line.specs.Window.{with_bit, ends}
+use Rattle.line.proofs.WindowBits.{Moved, bit_is, scan_found, scan_moved}
 
 -- a scan that goes on after i bits
 abbrev ahead : ℕ → Scan → Scan
@@ -27,34 +29,23 @@ module _ (b : List ℕ) (n window seen pattern : ℕ) where
   pub record Searching (w c i : ℕ) : Type 0 where
     pub sixteen : length b ≡ 16
     pub some : n ≤ 128
-    pub eight : pattern < 256
-    pub few : c ≤ 7
-    pub small : w < 2 ^ c
     pub high : i ≤ n
     pub rest : ahead i (scan (digits 8 pattern) (digits c w) (drop i bits)) ≡ within b n window seen pattern
 
-  pub searching : length b ≡ 16 → n ≤ 128 → pattern < 256 → seen ≤ 7 → window < 2 ^ seen → Searching window seen 0
-  searching e h p f s =
-      let r : Scan = scan (digits 8 pattern) (digits seen window) bits in
-      let z : 0 + r.count ≡ r.count = omega arith in
-      record {
-        sixteen = e;
-        some = h;
-        eight = p;
-        few = f;
-        small = s;
-        high = omega arith;
-        rest = λ i. record { count = z i; window = r.window; found = r.found };
-      }
+  module _ (w c i g : ℕ) (a : Searching w c i) (lt : i < n) (hv : g ≡ get_or (bits_of b) i 0) where
+    abbrev t : Bool
+    t = eqb g 1
 
-  module _ (w c i v : ℕ) (a : Searching w c i) (lt : i < n) (hv : v ≡ get_or (bits_of b) i 0) where
-    bit : v < 2
-    bit = rw hv (small_bits b i)
+    abbrev v : ℕ
+    v = cond t 1 0
+
+    is_bit : v ≡ g
+    is_bit = bit_is g (rw hv (small_bits b i))
 
     next : drop i bits ≡ v ∷ drop (suc i) bits
     next =
         let long : i < length bits = simp (length-take, length_bits) (omega (arith, a.sixteen, a.some)) in
-        drop-cons bits i 0 long ∙ ap (λ (x : ℕ). x ∷ drop (suc i) bits) (get_or-take n (bits_of b) i 0 lt ∙ sym hv)
+        drop-cons bits i 0 long ∙ ap (λ (x : ℕ). x ∷ drop (suc i) bits) (get_or-take n (bits_of b) i 0 lt ∙ sym hv ∙ sym is_bit)
 
     one_more : (w' c' : ℕ) → scan (digits 8 pattern) (digits c w) (v ∷ drop (suc i) bits) ≡ more (scan (digits 8 pattern) (digits c' w') (drop (suc i) bits))
         → ahead (i + 1) (scan (digits 8 pattern) (digits c' w') (drop (i + 1) bits)) ≡ within b n window seen pattern
@@ -66,48 +57,29 @@ module _ (b : List ℕ) (n window seen pattern : ℕ) where
         ∙ ap (ahead i) (sym e ∙ ap (scan (digits 8 pattern) (digits c w)) (sym next))
         ∙ a.rest)
 
-    pub low : w * 2 + v < 256
-    low = let m : 2 ^ c ≤ 2 ^ 7 = pow_mono {i = c} {j = 7} a.few in omega (arith, a.small, bit)
-
-    full : 7 ≤ c → c ≡ 7
-    full h = omega (arith, a.few)
-
-    pub turn_few : c < 7 → Searching (w * 2 + v) (c + 1) (i + 1)
-    turn_few h = record {
+    pub turn_moves : (w' c' : ℕ) → Moved (with_bit c w t) pattern c' w' → Searching w' c' (i + 1)
+    turn_moves w' c' m = record {
       sixteen = a.sixteen;
       some = a.some;
-      eight = a.eight;
-      few = omega arith;
-      small = (let p : 2 ^ (c + 1) ≡ 2 ^ c * 2 = pow-add 2 c 1 in omega (arith, a.small, bit));
       high = omega arith;
-      rest = one_more (w * 2 + v) (c + 1) (subst (λ (k : ℕ). scan (digits 8 pattern) (digits c w) (v ∷ drop (suc i) bits) ≡ more (scan (digits 8 pattern) (digits k (w * 2 + v)) (drop (suc i) bits))) (sym (add-one c)) (scan_few 7 pattern c w v (drop (suc i) bits) h bit));
+      rest = one_more w' c' (scan_moved c w t pattern (drop (suc i) bits) c' w' m);
     }
 
-    pub turn_miss : 7 ≤ c → (w * 2 + v ≡ pattern → ⊥) → Searching ((w * 2 + v) % 128) c (i + 1)
-    turn_miss h d = record {
-      sixteen = a.sixteen;
-      some = a.some;
-      eight = a.eight;
-      few = a.few;
-      small = rw (full h) (omega arith);
-      high = omega arith;
-      rest = one_more ((w * 2 + v) % 128) c (subst (λ (k : ℕ). scan (digits 8 pattern) (digits k w) (v ∷ drop (suc i) bits) ≡ more (scan (digits 8 pattern) (digits k ((w * 2 + v) % 128)) (drop (suc i) bits))) (sym (full h)) (scan_miss 7 pattern w v (drop (suc i) bits) bit low a.eight d));
-    }
-
-    pub turn_hit : 7 ≤ c → w * 2 + v ≡ pattern → Found b n window seen pattern (record { count = i + 1; window = 0; seen = 0; found = true })
-    turn_hit h e =
-        let w7 : w < 2 ^ 7 = subst (λ (k : ℕ). w < 2 ^ k) (full h) a.small in
+    pub turn_ends : ends (with_bit c w t) pattern ≡ true → (r : Window) → r.bits ≡ 0 → r.seen ≡ 0 → Found b n window seen pattern (record { count = i + 1; window = r; found = true })
+    turn_ends e r zb zs =
         let s : scan (digits 8 pattern) (digits c w) (drop i bits) ≡ record { count = 1; window = []; found = true } =
-        ap (scan (digits 8 pattern) (digits c w)) next ∙ subst (λ (k : ℕ). scan (digits 8 pattern) (digits k w) (v ∷ drop (suc i) bits) ≡ record { count = 1; window = []; found = true }) (sym (full h)) (scan_hit 7 pattern w v (drop (suc i) bits) w7 bit low a.eight e) in
+        ap (scan (digits 8 pattern) (digits c w)) next ∙ scan_found c w t pattern (drop (suc i) bits) e in
         let q : record { count = i + 1; window = []; found = true } ≡ within b n window seen pattern = ap (ahead i) (sym s) ∙ a.rest in
-        record { count = ap (λ (r : Scan). r.count) q; left = no_digits 0 ∙ ap (λ (r : Scan). r.window) q; match = ap (λ (r : Scan). r.found) q; small = omega arith; few = omega arith }
+        let none : digits r.seen r.bits ≡ [] = (λ i. digits (zs i) (zb i)) ∙ no_digits 0 in
+        record { count = ap (λ (r : Scan). r.count) q; left = none ∙ ap (λ (r : Scan). r.window) q; match = ap (λ (r : Scan). r.found) q }
 
-  pub searched : (w c i : ℕ) → Searching w c i → n ≤ i → Found b n window seen pattern (record { count = n; window = w; seen = c; found = false })
-  searched w c i a h =
+  pub searched : (r : Window) (i : ℕ) → Searching r.bits r.seen i → n ≤ i → Found b n window seen pattern (record { count = n; window = r; found = false })
+  searched r i a h =
       let e : i ≡ n = omega (arith, a.high) in
       let z : n ≡ i + 0 = omega (arith, e) in
+      let w : List ℕ = digits r.seen r.bits in
       let none : drop i bits ≡ [] = drop_of_length-le bits {i = i} (simp length-take (omega arith)) in
-      let s : record { count = 0; window = digits c w; found = false } ≡ scan (digits 8 pattern) (digits c w) (drop i bits) =
-      sym (ap (scan (digits 8 pattern) (digits c w)) none ∙ scan_none (digits 8 pattern) (digits c w)) in
-      let q : record { count = i + 0; window = digits c w; found = false } ≡ within b n window seen pattern = ap (ahead i) s ∙ a.rest in
-      record { count = z ∙ ap (λ (r : Scan). r.count) q; left = ap (λ (r : Scan). r.window) q; match = ap (λ (r : Scan). r.found) q; small = a.small; few = a.few }
+      let s : record { count = 0; window = w; found = false } ≡ scan (digits 8 pattern) w (drop i bits) =
+      sym (ap (scan (digits 8 pattern) w) none ∙ scan_none (digits 8 pattern) w) in
+      let q : record { count = i + 0; window = w; found = false } ≡ within b n window seen pattern = ap (ahead i) s ∙ a.rest in
+      record { count = z ∙ ap (λ (r : Scan). r.count) q; left = ap (λ (r : Scan). r.window) q; match = ap (λ (r : Scan). r.found) q }

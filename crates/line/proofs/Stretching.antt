@@ -36,7 +36,8 @@ use Rattle.line.specs.declared.search.Finding.{Finding}
 use Rattle.line.specs.declared.cover.Covered.{Covered}
 use Rattle.line.specs.View.{box, aes, settings, rule_of, view, holding}
 use Rattle.line.specs.Tests.{most_in}
-use Rattle.line.specs.Inner.{Good, within, Found, Covers, moved_on, scanned_to, darkened_by}
+use Rattle.line.specs.Good.{Good}
+use Rattle.line.specs.Inner.{within, Found, Covers, moved_on, scanned_to, darkened_by}
 
 -- ---- the first bits of the first bits
 
@@ -134,9 +135,9 @@ module _ (s : Line) (g : Good s) where
 
       pub scan_line : scanned_to s f ≡ holding s (after (rule_of s) (view s) (take f.count a))
       scan_line =
-          let window_is : digits f.seen f.window ≡ R.window = found.left ∙ ap (λ (t : Scan). t.window) there in
-          let w : f.window ≡ number R.window = sym (number_digits f.seen f.window found.small) ∙ ap number window_is in
-          let n : f.seen ≡ length R.window = sym (length_digits f.seen f.window) ∙ ap length window_is in
+          let window_is : digits f.window.seen f.window.bits ≡ R.window = found.left ∙ ap (λ (t : Scan). t.window) there in
+          let w : f.window.bits ≡ number R.window = sym (number_digits f.window.seen f.window.bits f.window.small) ∙ ap number window_is in
+          let n : f.window.seen ≡ length R.window = sym (length_digits f.window.seen f.window.bits) ∙ ap length window_is in
           let hit : f.found ≡ R.found = found.match ∙ ap (λ (t : Scan). t.found) there in
           let iv : s.iv ≡ pack 16 [] = g.iv_is ∙ ap (pack 16) none in
           let p : moved_on s.position f.count ≡ record { counter = (nexts G at R.count).counter; place = (nexts G at R.count).place } =

@@ -1,31 +1,17 @@
 -- What the functions inside the line tell each other. Nobody need believe this file: the public contracts cite nothing of it.
-use Rattle.std.specs.Prelude.{◌≡◌, Bool, cond, not, List, [], ℕ, ◌+◌, ◌-◌, ◌*◌, ◌^◌, ◌<◌, ◌≤◌, min, ltb, length, take, replicate}
+use Rattle.std.specs.Prelude.{◌≡◌, Bool, cond, not, List, [], ℕ, ◌+◌, ◌-◌, ◌*◌, ◌<◌, ◌≤◌, min, ltb, length, take, replicate}
 use Rattle.mode.specs.Rule.{after, outs}
 use Rattle.mode.specs.Words.{plus}
 use Rattle.mode.specs.Scan.{Scan, scan}
-use Rattle.bits.specs.Bits.{bits_of, pack, digits, part, laid, wrote}
-use Rattle.aes.specs.Cipher.{aes128}
+use Rattle.bits.specs.Bits.{bits_of, digits, part, laid, wrote}
 use Rattle.counter.specs.Counter.{advanced}
 use Rattle.counter.specs.declared.Position.{Position}
 use Rattle.line.specs.declared.record.Line.{Line}
 use Rattle.line.specs.declared.search.Finding.{Finding}
 use Rattle.line.specs.declared.cover.Covered.{Covered}
-use Rattle.line.specs.declared.stretch.Going.{Going}
+use Rattle.line.specs.declared.going.Going.{Going}
 use Rattle.line.specs.declared.stretch.Stretch.{Stretch}
 use Rattle.line.specs.View.{rule_of, view, holding}
-use Rattle.line.specs.Tests.{due_in, most_in}
-
--- a record that passes the tests for 9
-pub record Good (s : Line) : Type 0 where
-  pub l_low : 1 ≤ s.l
-  pub l_high : s.l ≤ 11
-  pub place_in : s.position.place < 128
-  pub left_in : s.left ≤ 128 * s.l
-  pub collected_is : s.collected ≡ due_in s
-  pub seen_in : s.seen ≤ most_in s
-  pub pattern_in : s.pattern < 256
-  pub window_in : s.window < 2 ^ s.seen
-  pub iv_is : s.iv ≡ pack 16 (take s.collected (bits_of s.iv))
 
 -- what there is to find in the first n bits of b, from a window on
 abbrev pub within : List ℕ → ℕ → ℕ → ℕ → ℕ → Scan
@@ -33,10 +19,8 @@ within b n window seen pattern = scan (digits 8 pattern) (digits seen window) (t
 
 pub record Found (b : List ℕ) (n window seen pattern : ℕ) (r : Finding) : Type 0 where
   pub count : r.count ≡ (within b n window seen pattern).count
-  pub left : digits r.seen r.window ≡ (within b n window seen pattern).window
+  pub left : digits r.window.seen r.window.bits ≡ (within b n window seen pattern).window
   pub match : r.found ≡ (within b n window seen pattern).found
-  pub small : r.window < 2 ^ r.seen
-  pub few : r.seen ≤ 7
 
 -- ---- a stretch
 
@@ -57,8 +41,8 @@ scanned_to s f = record {
   l = s.l;
   receiving = s.receiving;
   position = moved_on s.position f.count;
-  window = f.window;
-  seen = f.seen;
+  window = f.window.bits;
+  seen = f.window.seen;
   left = cond f.found (128 * s.l) s.left;
   iv = s.iv;
   collected = s.collected;
@@ -98,11 +82,6 @@ darkened_by s carried m =
 
 -- ---- a run of n bits of the input s into the output d, from bit i on
 
--- in the middle of a run: the record passes the tests for 9, and the block is the keystream block of its counter
-pub record Ready (g : Going) : Type 0 where
-  pub good : Good g.line
-  pub block : g.block ≡ aes128 g.line.key g.line.position.counter
-
 -- bits to read and room to write, few enough, and nothing but zeros behind the bits written so far in their last byte
 pub record Room (s d : List ℕ) (i n : ℕ) : Type 0 where
   pub few : i + n ≤ 524288
@@ -112,7 +91,6 @@ pub record Room (s d : List ℕ) (i n : ℕ) : Type 0 where
 
 -- what it gives, in the mode's words
 pub record Ran (s d : List ℕ) (i n : ℕ) (g r : Going) (e : List ℕ) : Type 0 where
-  pub ready : Ready r
   pub line : r.line ≡ holding g.line (after (rule_of g.line) (view g.line) (part s i n))
   pub out : e ≡ laid d i (outs (rule_of g.line) (view g.line) (part s i n))
 

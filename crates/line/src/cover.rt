@@ -4,17 +4,15 @@ ghost use Rattle.bits.specs.Bits.{bits_of, part};
 ghost use Rattle.mode.specs.Words.{plus};
 ghost use Rattle.line.specs.Inner.{Covers};
 
-// Bit by bit the sum modulo 2.
+// Bit by bit the sum modulo 2. aes has its own sum of two words, which are FIPS 197's.
 fn sum(a: [u8; 16], b: [u8; 16]) -> [u8; 16]
     ensures { bits_of result ≡ plus (bits_of a) (bits_of b) }
 {
-    let mut r = a;
-    let mut i = 0;
-    while i < 16 {
-        r[i] = r[i] ^ b[i];
-        i += 1;
+    let mut sum = a;
+    for i in 0..16 {
+        sum[i] ^= b[i];
     }
-    r
+    sum
 }
 
 // What comes out, and the line bits.

@@ -2,9 +2,12 @@
 #![tactic(auto)]
 
 mod cover;
-pub mod free;
+mod free;
+mod going;
 pub mod record;
 mod run;
 mod search;
+pub mod settings;
 mod stretch;
-pub mod tests;
+mod tests;
+pub mod window;

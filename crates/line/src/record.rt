@@ -1,7 +1,8 @@
 // A line's record: its settings and its state, in one form for each state.
 use counter::Position;
 
-// A bit that holds nothing is 0: of the window above its count, of the IV past the bits collected.
+// A bit that holds nothing is 0: of the window above its count, of the IV past the bits collected. The window and its count are plain numbers here, and no fact
+// stands in the type, since a host's bytes may stand for any record.
 #[derive(Clone, Copy)]
 pub struct Line {
     pub key: [u8; 16],

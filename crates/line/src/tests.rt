@@ -1,71 +1,57 @@
 // The tests for 9 of a free line's record (01, "Tests for 9").
-ghost use Rattle.std.specs.Prelude.{◌≡◌, cond, ◌-◌, ◌*◌, ◌/◌, ◌^◌, ◌<◌, ◌≤◌, min, ltb, eqb};
-ghost use Rattle.line.specs.Tests.{faulty};
+ghost use Rattle.std.specs.Prelude.{◌≡◌, Ok, Err, OnOk, cond, ◌-◌, ◌*◌, ◌/◌, ◌^◌, ◌<◌, ◌≤◌, min, ltb, eqb};
+ghost use Rattle.refusal.specs.declared.Refusal.{Refusal};
+ghost use Rattle.line.specs.Good.{Good};
+ghost use Rattle.line.specs.Tests.{due_in, most_in, faulty};
 
 use super::record::Line;
+use refusal::Refusal;
 
-pub(crate) fn wide(x: u8) -> u16
-    ensures { result ≡ x }
-{
-    x as u16
-}
+impl Line {
+    // The IV bits that are due.
+    fn due(&self) -> u16
+        requires { self.now.left ≤ 128 * self.now.l }
+        ensures { result ≡ due_in self.now }
+    {
+        if 0 < self.left {
+            (128 * self.l as u16 - self.left).min(128)
+        } else {
+            0
+        }
+    }
 
-// The IV bits that are due.
-fn due(l: u8, left: u16) -> u16
-    requires { left ≤ 128 * l }
-    ensures { result ≡ cond (ltb 0 left) (min 128 (128 * l - left)) 0 }
-{
-    if 0 < left {
-        let passed = 128 * wide(l) - left;
-        if passed < 128 { passed } else { 128 }
-    } else {
-        0
+    // The most window bits there may be.
+    fn most(&self) -> u8
+        ensures { result ≡ most_in self.now }
+    {
+        if 0 < self.left { 0 } else { 7 }
     }
-}
 
-// The most window bits there may be.
-fn most(left: u16) -> u8
-    ensures { result ≡ cond (ltb 0 left) 0 7 }
-{
-    if 0 < left { 0 } else { 7 }
-}
+    // Whether a record meets any of the tests.
+    #[tactic(auto, unfolding(crate::specs::Tests::faulty))]
+    pub fn is_faulty(&self) -> bool
+        ensures { result ≡ faulty self.now }
+    {
+        if !(1..=11).contains(&self.l) || 127 < self.position.place {
+            return true;
+        }
+        if self.left > 128 * self.l as u16 || self.due() != self.collected as u16 {
+            return true;
+        }
+        if self.most() < self.seen || self.window >> self.seen != 0 {
+            return true;
+        }
+        !bits::is_blank(&self.iv, self.collected as usize)
+    }
 
-// Whether a number has no more than n binary digits.
-fn is_low(x: u8, n: u8) -> bool
-    requires { n < 8 }
-    ensures { result ≡ eqb (x / 2 ^ n) 0 }
-{
-    x >> n == 0
-}
-
-// Whether a record meets any of the tests.
-pub fn is_faulty(s: Line) -> bool
-    ensures { result ≡ faulty s }
-{
-    let l = s.l;
-    let left = s.left;
-    let p = s.position;
-    if l < 1 {
-        return true;
+    // What a run tries first: 9 where the record meets a test.
+    pub(crate) fn tested(self) -> Result<(), Refusal>
+        ensures value { result ≡ cond (faulty self) (Err Refusal.State) (Ok tt) }
+        ensures good { OnOk result (Good self) }
+    {
+        if self.is_faulty() {
+            return Err(Refusal::State);
+        }
+        Ok(())
     }
-    if 11 < l {
-        return true;
-    }
-    if 127 < p.place {
-        return true;
-    }
-    if 128 * wide(l) < left {
-        return true;
-    }
-    if wide(s.collected) != due(l, left) {
-        return true;
-    }
-    if most(left) < s.seen {
-        return true;
-    }
-    if !is_low(s.window, s.seen) {
-        return true;
-    }
-    let iv = s.iv;
-    !bits::is_blank(&iv, s.collected as usize)
 }

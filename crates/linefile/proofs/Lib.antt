@@ -1,4 +1,3 @@
-pub mod Tests
 pub mod Areas
 pub mod Looking
 pub mod Listing

@@ -26,14 +26,13 @@ use Rattle.line.proofs.Running.{small_outs}
 use Rattle.paced.proofs.Records.{rate_low}
 use Rattle.paced.proofs.Reached.{viewed_reached, reached_passes}
 use Rattle.line.specs.View.{aes, box, settings, rule_of, view}
-use Rattle.line.specs.Inner.{Good}
+use Rattle.line.specs.Good.{Good}
 use Rattle.paced.specs.declared.record.Paced.{Paced}
 use Rattle.paced.specs.View.{viewed, keeping}
 use Rattle.paced.specs.Tests.{faulty}
-use Rattle.refusal.specs.declared.Answer.{Answer}
-use Rattle.refusal.specs.Numbers.{outcome}
-use Rattle.paced.specs.declared.answer.Reply.{Reply}
-use Rattle.paced.specs.Opening.{empty, fresh_paced, zero_paced, opening}
+use Rattle.std.specs.Prelude.{Ok}
+use Rattle.paced.specs.Opening.{empty, fresh_paced, paced_answer, opened as opened_paced}
+use Rattle.refusal.proofs.Answers.{given_done}
 use Rattle.paced.proofs.Passing.{opens}
 use Rattle.paced.specs.Ticking.{leaving_from}
 use Rattle.paced.specs.Closing.{last_from}
@@ -115,23 +114,14 @@ module _ (c : Settings) (s : List ℕ) (from n : ℕ) (o₀ : List ℕ) where
       gone_small = rw (← take_at (gone k) (closing R (held k)) (length (gone k)) refl, whole) (small_take (length (gone k)) _ (small_outs (aes (box (line_of c))) (settings (line_of c)) start (part s from (k * D))))
 
     -- the opening is done, and no tick has been
-    pub pacing : (r : Reply) → length c.key ≡ 16 → length c.iv ≡ 16 → r ≡ opening c.key c.iv c.pattern c.l c.receiving D
-        → Pacing o₀ (record { line = r.line; at = 0 }) 0
-    pacing r hk hv er =
-        let done = opens c.key c.iv c.l D hk hv w.l_low w.l_high w.some w.slow in
-        record {
-          k = 0;
-          given = omega arith;
-          high = omega arith;
-          line = ap (λ (x : Reply). x.line) er ∙ ap (λ (a : Answer). outcome a (fresh_paced (line_of c) D) zero_paced) done;
-          count = refl;
-          out = sym (laid_nothing o₀);
-        }
+    pub paced_opens : length c.key ≡ 16 → length c.iv ≡ 16 → opened_paced c.key c.iv c.pattern c.l c.receiving D ≡ Ok (fresh_paced (line_of c) D)
+    paced_opens hk hv = rw (opens c.key c.iv c.l D hk hv w.l_low w.l_high w.some w.slow)
 
-    pub paced_length : (e : List ℕ) → e ≡ laid o₀ 0 (outs R start (part s from n)) → length e ≡ length o₀
-    paced_length e ee =
-        let l : length (outs R start (part s from n)) ≡ n = length_outs R start (part s from n) ∙ length_part s from n w.there in
-        ap length ee ∙ length_laid o₀ 0 (outs R start (part s from n)) (omega (arith, l, w.room))
+    pub pacing : (p : Paced) → opened_paced c.key c.iv c.pattern c.l c.receiving D ≡ Ok p → length c.key ≡ 16 → length c.iv ≡ 16
+        → Pacing o₀ (record { line = p; at = 0 }) 0
+    pacing p e hk hv =
+        let is = given_done (paced_answer c.key c.iv c.l D) (fresh_paced (line_of c) D) p e in
+        record { k = 0; given = omega arith; high = omega arith; line = sym is.1; count = refl; out = sym (laid_nothing o₀) }
 
     -- a whole tick is left where any bit is
     tick_left : (k : ℕ) → k * D < n → suc k * D ≤ n

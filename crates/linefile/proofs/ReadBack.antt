@@ -1,6 +1,7 @@
 -- What a writer wrote is read back: the four numbers stand before both areas, no byte of one area lies in the other, and so each is read where it was stored.
+use Rattle.std.specs.Prelude.{Ok}
 use mathlib.Core.Path.{◌≡◌, refl, sym, ap, ◌∙◌}
-use mathlib.Core.Bool.{Bool, true, false, not, cond, ◌&&◌}
+use mathlib.Core.Bool.{Bool, true, false, cond}
 use mathlib.Core.Logic.{◌⊎◌, inl, inr}
 use mathlib.Core.List.{List, [], ◌∷◌, ◌++◌}
 use Prim.Native.Nat.{ℕ, ◌+◌, ◌-◌, ◌*◌, ◌/◌, ◌%◌, ◌<◌, ◌≤◌}
@@ -10,16 +11,13 @@ use lib.Dec.{eqb, ltb}
 use lib.ListN.{length, get_or, take, drop, replicate, length-append, length-replicate, get_or-append}
 use lib.Seq.{sets, length-sets, get_or-append-add}
 use borrow.Author.Tests.{le-ltb, eq-eqb}
-use Rattle.refusal.specs.declared.Answer.{Answer}
 use Rattle.bits.specs.Bits.{pack}
 use Rattle.bits.proofs.Lists.{Small, zeros}
 use Rattle.bits.proofs.Packed.{length_pack}
 use Rattle.bits.proofs.Parts.{packed_part}
 use Rattle.linefile.specs.declared.reader.Settings.{Settings}
-use Rattle.linefile.specs.File.{number_at, stated_length, count_of, bits_at, settings_at, bytes_for, outside, overlapping, settings_of, l_of, direction_of, d_of, ragged, malformed, rate_refused, read_answer, contents, bits_of_file}
+use Rattle.linefile.specs.File.{number_at, stated_length, count_of, bits_at, settings_at, bytes_for, outside, overlapping, settings_of, l_of, d_of, ragged, malformed, rate_refused, read_answer, contents, bits_of_file}
 use Rattle.linefile.specs.Writer.{word, setting_bytes, file_of, Writable}
-use Rattle.linefile.proofs.Areas.{says}
-use Rattle.linefile.proofs.Tests.{nor, not_first, not_second}
 use Rattle.linefile.proofs.Stored.{stored_outside, stored_inside, taken}
 
 word_is : (n : ℕ) → ((n / 16777216 * 256 + n / 65536 % 256) * 256 + n / 256 % 256) * 256 + n % 256 ≡ n
@@ -129,50 +127,51 @@ module _ (c : Settings) (r : List ℕ) (a b n : ℕ) (w : Writable c r a b n) (s
   low_direction true = refl
   low_direction false = refl
 
-  no_overlap : ((length r ≡ 0) ⊎ ((a + bytes_for (length r) ≤ b) ⊎ (b + 36 ≤ a))) → overlapping a (bytes_for (length r)) b 36 ≡ false
-  no_overlap (inl p) =
-      not_first _ (ltb b (a + bytes_for (length r)))
-      (not_first _ (ltb a (b + 36)) (not_first (ltb 0 (bytes_for (length r))) (ltb 0 36) (le-ltb 0 (bytes_for (length r)) (omega arith))))
-  no_overlap (inr (inl p)) = not_second (ltb 0 (bytes_for (length r)) && ltb 0 36 && ltb a (b + 36)) (ltb b (a + bytes_for (length r))) (le-ltb b (a + bytes_for (length r)) p)
-  no_overlap (inr (inr p)) = not_first _ (ltb b (a + bytes_for (length r))) (not_second (ltb 0 (bytes_for (length r)) && ltb 0 36) (ltb a (b + 36)) (le-ltb a (b + 36) p))
+  no_overlap : (length r ≡ 0) ⊎ ((a + bytes_for (length r) ≤ b) ⊎ (b + 36 ≤ a)) → overlapping a (bytes_for (length r)) b 36 ≡ false
+  no_overlap (inl p) = grind arith
+  no_overlap (inr (inl p)) = grind arith
+  no_overlap (inr (inr p)) = grind arith
 
-  whole_ticks : ((c.d ≡ 0) ⊎ ((length r % c.d ≡ 0) × (c.d * (c.l + 1) ≤ 128 * c.l))) → ragged (length r) c.d ≡ false
-  whole_ticks (inl p) = not_first (not (eqb c.d 0)) (not (eqb (length r % c.d) 0)) (rw (eq-eqb c.d 0 p))
-  whole_ticks (inr p) = not_second (not (eqb c.d 0)) (not (eqb (length r % c.d) 0)) (rw (eq-eqb (length r % c.d) 0 p.0))
+  whole_ticks : (c.d ≡ 0) ⊎ ((length r % c.d ≡ 0) × (c.d * (c.l + 1) ≤ 128 * c.l)) → ragged (length r) c.d ≡ false
+  whole_ticks (inl p) = grind arith
+  whole_ticks (inr p) = grind arith
 
-  slow_enough : ((c.d ≡ 0) ⊎ ((length r % c.d ≡ 0) × (c.d * (c.l + 1) ≤ 128 * c.l))) → rate_refused c.l c.d ≡ false
-  slow_enough (inl p) = not_first (not (eqb c.d 0)) (ltb (128 * c.l) (c.d * (c.l + 1))) (rw (eq-eqb c.d 0 p))
-  slow_enough (inr p) = not_second (not (eqb c.d 0)) (ltb (128 * c.l) (c.d * (c.l + 1))) (le-ltb (128 * c.l) (c.d * (c.l + 1)) p.1)
+  slow_enough : (c.d ≡ 0) ⊎ ((length r % c.d ≡ 0) × (c.d * (c.l + 1) ≤ 128 * c.l)) → rate_refused c.l c.d ≡ false
+  slow_enough (inl p) = grind arith
+  slow_enough (inr p) = grind arith
 
   within : (start bytes : ℕ) → 16 ≤ start → start + bytes ≤ n → outside start bytes n ≡ false
-  within start bytes low high = nor (ltb start 16) (ltb n (start + bytes)) (le-ltb start 16 low) (le-ltb n (start + bytes) high)
+  within start bytes low high = grind arith
 
   well_formed : malformed file ≡ false
   unfolding malformed
   well_formed =
-      let direction : ltb 1 (direction_of file) ≡ false = rw (settings_start, setting_kept 2 (omega arith)) (low_direction c.receiving) in
-      let ticks : ragged (count_of file) (d_of file) ≡ false = rw (count, settings_start, setting_kept 3 (omega arith)) (whole_ticks w.free_or_paced) in
-      nor _ (ragged (count_of file) (d_of file))
-      (nor _ (ltb 1 (direction_of file))
-      (nor _ (overlapping (bits_at file) (bytes_for (count_of file)) (settings_at file) 36)
-      (nor _ (outside (settings_at file) 36 (length file))
-      (nor _ (outside (bits_at file) (bytes_for (count_of file)) (length file))
-      (nor _ (ltb (length file) 16)
-      (nor (ltb 65536 (length file)) (not (eqb (stated_length file) (length file)))
-      (le-ltb 65536 (length file) (omega (arith, length_file, w.short)))
-      (rw (eq-eqb (stated_length file) (length file) (stated ∙ sym length_file))))
-      (le-ltb (length file) 16 (omega (arith, length_file, w.settings_after, w.settings_inside))))
-      (rw (bits_start, count, length_file) (within a (bytes_for (length r)) w.bits_after w.bits_inside)))
-      (rw (settings_start, length_file) (within b 36 w.settings_after w.settings_inside)))
-      (rw (bits_start, count, settings_start) (no_overlap w.apart)))
-      direction)
-      ticks
+      let short : ltb 65536 n ≡ false = le-ltb 65536 n w.short in
+      let same : eqb n n ≡ true = eq-eqb n n refl in
+      let long : ltb n 16 ≡ false = le-ltb n 16 (omega (arith, w.settings_after, w.settings_inside)) in
+      simp (
+        bits_start,
+        count,
+        stated,
+        length_file,
+        settings_start,
+        setting_kept 2 (omega arith),
+        setting_kept 3 (omega arith),
+        short,
+        same,
+        long,
+        within a (bytes_for (length r)) w.bits_after w.bits_inside,
+        within b 36 w.settings_after w.settings_inside,
+        no_overlap w.apart,
+        low_direction c.receiving,
+        whole_ticks w.free_or_paced,
+      )
 
-  pub read_back : contents file ≡ record { answer = Answer.Done; settings = c; count = length r; start = a }
-  unfolding read_answer
+  pub read_back : contents file ≡ Ok (record { settings = c; count = length r; start = a })
+  unfolding contents read_answer
   read_back =
       let l : l_of file ≡ c.l = ap (λ (s : Settings). s.l) settings_back in
       let d : d_of file ≡ c.d = ap (λ (s : Settings). s.d) settings_back in
-      let done : read_answer file ≡ Answer.Done =
+      let done : read_answer file ≡ Ok tt =
       rw (well_formed, l, d, le-ltb c.l 1 w.l_low, le-ltb 11 c.l w.l_high, slow_enough w.free_or_paced) in
-      says file done ∙ (λ i. record { answer = Answer.Done; settings = settings_back i; count = count i; start = bits_start i })
+      rw done (λ i. Ok (record { settings = settings_back i; count = count i; start = bits_start i }))

@@ -1,8 +1,7 @@
 -- A line file (01, "Line files and the two programs"): what it says, or the number that it is refused with. Every list of bytes is one or the other.
-use Rattle.std.specs.Prelude.{Bool, false, not, cond, ◌&&◌, ◌||◌, List, ℕ, ◌+◌, ◌*◌, ◌/◌, ◌%◌, eqb, ltb, length, get_or, take, drop, replicate}
+use Rattle.std.specs.Prelude.{Result, Ok, Err, Bool, not, cond, ◌&&◌, ◌||◌, List, ℕ, ◌+◌, ◌*◌, ◌/◌, ◌%◌, eqb, ltb, length, get_or, take, drop}
 use Rattle.refusal.specs.declared.Refusal.{Refusal}
-use Rattle.refusal.specs.declared.Answer.{Answer}
-use Rattle.refusal.specs.Numbers.{outcome}
+use Rattle.refusal.specs.Numbers.{Answer, given}
 use Rattle.bits.specs.Bits.{part}
 use Rattle.linefile.specs.declared.reader.Settings.{Settings}
 use Rattle.linefile.specs.declared.reader.Contents.{Contents}
@@ -94,9 +93,9 @@ rate_refused l d = not (eqb d 0) && ltb (128 * l) (d * (l + 1))
 
 unfoldable pub read_answer : List ℕ → Answer
 read_answer s =
-    cond (malformed s) (Answer.Refused (Refusal.File))
-    (cond (blackout_refused (l_of s)) (Answer.Refused (Refusal.Blackout))
-    (cond (rate_refused (l_of s) (d_of s)) (Answer.Refused (Refusal.Rate)) (Answer.Done)))
+    cond (malformed s) (Err (Refusal.File))
+    (cond (blackout_refused (l_of s)) (Err (Refusal.Blackout))
+    (cond (rate_refused (l_of s) (d_of s)) (Err (Refusal.Rate)) (Ok tt)))
 
 -- ---- what a file says
 
@@ -104,14 +103,6 @@ read_answer s =
 abbrev pub bits_of_file : List ℕ → List ℕ
 bits_of_file s = part s (8 * bits_at s) (count_of s)
 
-abbrev pub no_settings : Settings
-no_settings = record { l = 0; pattern = 0; receiving = false; d = 0; key = replicate 16 0; iv = replicate 16 0 }
-
--- the settings, the number of bits and the byte at which they start; of a refused file zeros
-unfoldable pub contents : List ℕ → Contents
-contents s = record {
-  answer = read_answer s;
-  settings = outcome (read_answer s) (settings_of s) no_settings;
-  count = outcome (read_answer s) (count_of s) 0;
-  start = outcome (read_answer s) (bits_at s) 0;
-}
+-- its settings, the number of its bits and the byte at which they start, or why it is refused
+unfoldable pub contents : List ℕ → Result Contents Refusal
+contents s = given (read_answer s) (record { settings = settings_of s; count = count_of s; start = bits_at s })

@@ -8,7 +8,16 @@ use Rattle.paced.specs.Tests.{faulty}
 use Rattle.paced.specs.Ticking.{leaving_from}
 use Rattle.paced.specs.Closing.{last_from}
 use Rattle.linefile.specs.declared.reader.Settings.{Settings}
+use Rattle.linefile.specs.declared.reader.Contents.{Contents}
 use Rattle.linefile.specs.declared.running.Going.{Going}
+
+-- settings that 3 lets pass for a free line, and bits that are there, with room for as many
+pub record Freed (c : Contents) (s o : ℕ) : Type 0 where
+  pub l_low : 1 ≤ c.settings.l
+  pub l_high : c.settings.l ≤ 11
+  pub there : 8 * c.start + c.count ≤ 8 * s
+  pub few : c.count ≤ 524288
+  pub room : c.count ≤ 8 * o
 
 -- the bits r can be laid after the first `at` bits of o
 pub record Roomy (o : List ℕ) (at : ℕ) (r : List ℕ) : Type 0 where

@@ -1,7 +1,8 @@
 -- What `syncs` says of a line file (01, "Line files and the two programs").
-use Rattle.std.specs.Prelude.{true, List, ℕ, ◌*◌, length}
+use Rattle.std.specs.Prelude.{Result, true, List, ℕ, ◌*◌, length}
 use Rattle.std.proofs.lemmas.List.Edits.{sets}
-use Rattle.refusal.specs.Numbers.{outcome}
+use Rattle.refusal.specs.declared.Refusal.{Refusal}
+use Rattle.refusal.specs.Numbers.{outcome, given}
 use Rattle.bits.specs.Bits.{digits}
 use Rattle.mode.specs.Mode.{Settings}
 use Rattle.mode.specs.Ends.{pattern_ends, under_new}
@@ -16,14 +17,9 @@ scanned pattern l = record { pattern = digits 8 pattern; collects = 128; lasts =
 abbrev pub ends_in : List ℕ → List ℕ
 ends_in s = pattern_ends (scanned (pattern_of s) (l_of s)) (bits_of_file s)
 
--- the answer, the bit count, L and the number of patterns; of a refused file zeros
-abbrev pub synced : List ℕ → Syncs
-synced s = record {
-  answer = read_answer s;
-  bits = outcome (read_answer s) (count_of s) 0;
-  l = outcome (read_answer s) (l_of s) 0;
-  found = outcome (read_answer s) (length (ends_in s)) 0;
-}
+-- the bit count, L and the number of patterns, or why the file is refused
+abbrev pub synced : List ℕ → Result Syncs Refusal
+synced s = given (read_answer s) (record { bits = count_of s; l = l_of s; found = length (ends_in s) })
 
 -- the ends stand at the start of a lent list, as many as it holds
 abbrev pub syncs_left : List ℕ → List ℕ → List ℕ

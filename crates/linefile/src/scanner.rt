@@ -4,79 +4,66 @@ ghost use Rattle.std.proofs.lemmas.List.Edits.{sets};
 ghost use Rattle.bits.specs.Bits.{part};
 ghost use Rattle.mode.specs.Ends.{pattern_ends};
 ghost use Rattle.linefile.specs.Syncs.{scanned as scannedBy};
-ghost use Rattle.linefile.specs.Inner.{Steady, Looked};
 
-// The scanner between two line bits: the window as a number with its count, and the blackout bits left.
+use line::window::Window;
+
+// The scanner between two line bits: its window, which is empty in a blackout, and the blackout bits left.
 #[derive(Clone, Copy)]
 pub struct Scanner {
-    pub window: u8,
-    pub seen: u8,
+    pub window: Window,
     pub left: u16,
+    ghost dark: { 0 < left → window.seen ≡ 0 },
 }
 
-// The scanner after a line bit, and whether a pattern ended there.
+// The scanner after a line bit, which there is in either case, and whether a pattern ended there.
 #[derive(Clone, Copy)]
 pub struct Scanned {
     pub scanner: Scanner,
     pub found: bool,
 }
 
-// The blackout bits of a line.
-fn blackout(l: u8) -> u16
-    ensures { result ≡ 128 * l }
-{
-    128 * l as u16
-}
+impl Scanner {
+    ghost use Rattle.linefile.specs.Inner.{Looked};
 
-// One line bit.
-fn look(s: Scanner, v: u8, pattern: u8, l: u8) -> Scanned
-    requires steady { Steady s }
-    requires v_bound { v < 2 }
-    ensures { Looked s v pattern l result }
-{
-    let left = s.left;
-    if 0 < left {
-        return Scanned {
-            scanner: Scanner {
-                window: 0,
-                seen: 0,
-                left: left - 1,
-            },
-            found: false,
-        };
-    }
-    let x = s.window * 2 + v;
-    if s.seen < 7 {
-        return Scanned {
-            scanner: Scanner {
-                window: x,
-                seen: s.seen + 1,
-                left: 0,
-            },
-            found: false,
-        };
-    }
-    if x == pattern {
-        return Scanned {
-            scanner: Scanner {
-                window: 0,
-                seen: 0,
-                left: blackout(l),
-            },
-            found: true,
-        };
-    }
-    Scanned {
-        scanner: Scanner {
-            window: x % 128,
-            seen: 7,
+    // Before the first line bit.
+    fn new() -> Scanner
+        ensures { (result.window.bits ≡ 0) × (result.window.seen ≡ 0) × (result.left ≡ 0) }
+    {
+        Scanner {
+            window: Window { bits: 0, seen: 0 },
             left: 0,
-        },
-        found: false,
+        }
+    }
+
+    // One line bit.
+    fn look(self, bit: bool, pattern: u8, l: u8) -> Scanned
+        ensures { Looked self bit pattern l result }
+    {
+        let Scanner { window, left } = self;
+        if 0 < left {
+            let left = left - 1;
+            return Scanned {
+                scanner: Scanner { window, left },
+                found: false,
+            };
+        }
+        match window.after(bit, pattern) {
+            Some(window) => Scanned {
+                scanner: Scanner { window, left: 0 },
+                found: false,
+            },
+            None => Scanned {
+                scanner: Scanner {
+                    window: Window { bits: 0, seen: 0 },
+                    left: 128 * l as u16,
+                },
+                found: true,
+            },
+        }
     }
 }
 
-// Stores x at place k; past the end nothing is stored.
+// Stores x at place k; past the end nothing is stored. Not by `get_mut`, after which only the length of d is known.
 fn put(d: &mut [u32], k: usize, x: u32)
     ensures { d.new ≡ set d.old k x }
 {
@@ -91,20 +78,13 @@ pub(crate) fn list_ends(s: &[u8], from: usize, n: usize, pattern: u8, l: u8, d: 
     ensures value { result ≡ length (pattern_ends (scannedBy pattern l) (part s.now from n)) }
     ensures d_after { d.new ≡ sets d.old 0 (pattern_ends (scannedBy pattern l) (part s.now from n)) }
 {
-    let mut scanner = Scanner {
-        window: 0,
-        seen: 0,
-        left: 0,
-    };
-    let mut count: usize = 0;
-    let mut i: usize = 0;
-    while i < n {
-        let t = look(scanner, bits::get(s, from + i), pattern, l);
-        let next = t.scanner;
-        scanner = next;
-        i += 1;
+    let mut scanner = Scanner::new();
+    let mut count = 0;
+    for i in 0..n {
+        let t = scanner.look(bits::get(s, from + i) == 1, pattern, l);
+        scanner = t.scanner;
         if t.found {
-            put(d, count, i as u32);
+            put(d, count, i as u32 + 1);
             count += 1;
         }
     }

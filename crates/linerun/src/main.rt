@@ -1,39 +1,34 @@
 // `linerun`: writes the result bits of the line file on standard input (01, "Line files and the two programs").
 #![tactic(auto)]
 
+ghost use Rattle.std.specs.Prelude.{◌*◌, ◌≤◌, length, IfOk};
+
 use linefile::running;
-use refusal::Answer;
+use refusal::Refusal;
+use std::io;
 use std::io::{Input, Stdout};
 
-// The first bytes of the output, as many as the bits fill.
-fn write_bits(out: Stdout, output: &[u8], bits: u64) -> bool {
-    let bytes = (bits / 8 + (bits % 8 + 7) / 8) as usize;
-    if output.len() < bytes {
-        return false;
-    }
-    console::write(&out, &output[..bytes])
-}
-
-fn write_answer(out: Stdout, answer: Answer, output: &[u8], bits: u64) -> bool {
-    match answer {
-        Answer::Done => write_bits(out, output, bits),
-        Answer::Refused(r) => console::write_refused(&out, Answer::Refused(r)),
+// The bytes of the output that the bits fill, or the line of a refusal.
+fn write(out: Stdout, ran: Result<u64, Refusal>, output: &[u8]) -> io::Result<()>
+    requires { IfOk ran (λ bits. bits ≤ 8 * length output.now) }
+{
+    match ran {
+        Ok(bits) => out.write_all(&output[..bits.div_ceil(8) as usize]),
+        Err(refusal) => println!(out; "{refusal}"),
     }
 }
 
+#[tactic(auto, using(linefile::proofs::Results::result_fits))]
 fn main(rt: HostRuntime) {
     // One byte more than a file may have.
-    let mut file = [0u8; 65537];
-    let mut output = [0u8; 65536];
-    let input = console::read_input(&mut rt.reader(), &mut file);
-    if !input.ok {
-        console::complain(&rt.stderr(), b"linerun: the input cannot be read\n");
+    let mut file = [0; 65537];
+    let mut output = [0; 65536];
+    let Ok(n) = console::read_input(&mut rt.reader(), &mut file) else {
+        let _ = eprintln!(rt; "linerun: the input cannot be read");
         return;
-    }
-    let n = input.bytes;
+    };
     let ran = running::run(&file[..n], &mut output);
-    let answer = ran.answer;
-    if !write_answer(rt.stdout(), answer, &output, ran.bits) {
-        console::complain(&rt.stderr(), b"linerun: the output cannot be written\n");
+    if write(rt.stdout(), ran, &output).is_err() {
+        let _ = eprintln!(rt; "linerun: the output cannot be written");
     }
 }

@@ -36,14 +36,14 @@ same q o₀ o i fit room e =
     ap length e ∙ length_laid o₀ 0 (part q 0 i) (omega arith)
 
 -- bits of the queue copied after those before them
-pub copied : (q o₀ o e b : List ℕ) (i k : ℕ) → i + k ≤ 8 * length q → k ≤ 128
-    → o ≡ laid o₀ 0 (part q 0 i) → b ≡ pack 16 (part q i k) → e ≡ laid o i (take k (bits_of b)) → e ≡ laid o₀ 0 (part q 0 (i + k))
-copied q o₀ o e b i k fits few before read now =
+pub copied : (q o₀ o e b : List ℕ) (i k j : ℕ) → j ≡ i + k → j ≤ 8 * length q → k ≤ 128
+    → o ≡ laid o₀ 0 (part q 0 i) → b ≡ pack 16 (part q i k) → e ≡ laid o i (take k (bits_of b)) → e ≡ laid o₀ 0 (part q 0 j)
+copied q o₀ o e b i k j is fits few before read now =
     let P : List ℕ = part q 0 i in
     let l : i ≡ 0 + length P = (let m : length P ≡ i = length_part q 0 i (omega arith) in omega arith) in
     let z : 0 + i ≡ i = omega arith in
-    let here : take k (bits_of b) ≡ part q i k = sym (part_start b k) ∙ bits_read q b i k read few fits in
+    let here : take k (bits_of b) ≡ part q i k = sym (part_start b k) ∙ bits_read q b i k read few (omega (arith, is)) in
     now
     ∙ (λ j. laid (before j) (l j) (here j))
     ∙ laid_laid o₀ 0 P (part q i k) (small_part q 0 i) (omega arith)
-    ∙ ap (laid o₀ 0) (ap (λ (n : ℕ). P ++ part q n k) (sym z) ∙ sym (part_split q 0 i k))
+    ∙ ap (laid o₀ 0) (ap (λ (n : ℕ). P ++ part q n k) (sym z) ∙ sym (part_split q 0 i k) ∙ ap (part q 0) (sym is))

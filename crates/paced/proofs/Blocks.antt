@@ -1,4 +1,5 @@
 -- A block of bits through the line: its run is never refused, and what comes out for the bits that were read goes to their place.
+use Rattle.std.specs.Prelude.{Ok}
 use mathlib.Core.Path.{◌≡◌, sym, ap, subst, ◌∙◌}
 use mathlib.Core.List.{List, [], ◌++◌}
 use Prim.Native.Nat.{ℕ, ◌+◌, ◌*◌, ◌≤◌, ◌<◌}
@@ -12,16 +13,16 @@ use Rattle.bits.proofs.Lists.{Small, Bytes, zeros}
 use Rattle.bits.proofs.Packed.{pack_none, bits_pack, pack_bits}
 use Rattle.bits.proofs.Parts.{small_part, length_part, part_none, part_start}
 use Rattle.bits.proofs.Laid.{laid_pack}
-use Rattle.refusal.specs.declared.Answer.{Answer}
+use Rattle.refusal.specs.Numbers.{Answer}
 use Rattle.refusal.specs.Numbers.{outcome}
 use Rattle.line.specs.declared.record.Line.{Line}
-use Rattle.line.specs.declared.free.Reply.{Reply}
 use Rattle.line.specs.Free.{run_answer, running, written}
 use Rattle.line.specs.View.{box, aes, settings, rule_of, view, holding}
-use Rattle.line.specs.Inner.{Good, Ran}
+use Rattle.line.specs.Good.{Good}
+use Rattle.line.specs.Inner.{Ran}
 use Rattle.line.proofs.Passing.{runs}
 use Rattle.line.proofs.Records.{passes, holds, bits_from_small, good_ran}
-use Rattle.line.proofs.Running.{small_outs, going, going_ready}
+use Rattle.line.proofs.Running.{small_outs, going}
 use Rattle.pace.specs.Tick.{width, moves}
 use Rattle.paced.specs.Inner.{Passes}
 use Rattle.paced.proofs.Appending.{bits_read}
@@ -41,11 +42,11 @@ module _ (s : Line) (g : Good s) where
 
   -- a run of so few bits is done
   module _ (b : List ℕ) (n : ℕ) (lb : length b ≡ 16) (few : n ≤ 128) where
-    done : (d : List ℕ) → length d ≡ 16 → run_answer s n b d ≡ Answer.Done
+    done : (d : List ℕ) → length d ≡ 16 → run_answer s n b d ≡ Ok tt
     done d ld = runs s n b d (passes s g) (omega arith) (omega arith) (omega arith)
 
-    pub block_line : (d : List ℕ) (r : Reply) → length d ≡ 16 → r ≡ running s n b d → r.line ≡ next (part b 0 n)
-    block_line d r ld e = ap (λ (x : Reply). x.line) e ∙ ap (λ (a : Answer). outcome a (next (part b 0 n)) s) (done d ld)
+    pub block_line : (d : List ℕ) (t : Line) → length d ≡ 16 → t ≡ (running s n b d).line → t ≡ next (part b 0 n)
+    block_line d t ld e = e ∙ ap (λ (a : Answer). outcome a (next (part b 0 n)) s) (done d ld)
 
     pub block_out : (d e : List ℕ) → d ≡ zeros 16 → e ≡ written s n b d → e ≡ pack 16 (out (part b 0 n))
     block_out d e z w =
@@ -93,13 +94,13 @@ module _ (s : Line) (g : Good s) where
 
   -- ---- bits passed on in closing, in the words of the line's runs
 
-  pub ran_block : (q b o d e : List ℕ) (i n : ℕ) (t : Line) → b ≡ pack 16 (part q i n) → n ≤ 128 → i + n ≤ 8 * length q → t ≡ next (part b 0 n) → o ≡ pack 16 (out (part b 0 n))
-      → e ≡ laid d i (take n (bits_of o)) → Ran q d i n (going s) (going t) e
-  ran_block q b o d e i n t read few fits te oe ee =
-      let same : part b 0 n ≡ part q i n = bits_read q b i n read few fits in
-      let line : t ≡ next (part q i n) = te ∙ ap next same in
-      record {
-        ready = going_ready t (subst Good (sym line) (good_ran s g (part q i n) (bits_from_small (part q i n) (small_part q i n))));
-        line = line;
-        out = ee ∙ ap (laid d i) (out_bits q b o i n read few fits oe);
-      }
+  pub good_block : (q b : List ℕ) (i n : ℕ) (t : Line) → b ≡ pack 16 (part q i n) → n ≤ 128 → i + n ≤ 8 * length q → t ≡ next (part b 0 n) → Good t
+  good_block q b i n t read few fits te =
+      subst Good (sym (te ∙ ap next (bits_read q b i n read few fits))) (good_ran s g (part q i n) (bits_from_small (part q i n) (small_part q i n)))
+
+  pub ran_block : (q b o d e : List ℕ) (i n : ℕ) (t : Line) (h : Good t) → b ≡ pack 16 (part q i n) → n ≤ 128 → i + n ≤ 8 * length q → t ≡ next (part b 0 n)
+      → o ≡ pack 16 (out (part b 0 n)) → e ≡ laid d i (take n (bits_of o)) → Ran q d i n (going s g) (going t h) e
+  ran_block q b o d e i n t h read few fits te oe ee = record {
+    line = te ∙ ap next (bits_read q b i n read few fits);
+    out = ee ∙ ap (laid d i) (out_bits q b o i n read few fits oe);
+  }

@@ -4,7 +4,6 @@ pub mod Records
 pub mod Moves
 pub mod Blocks
 pub mod Rest
-pub mod Replies
 pub mod Starts
 pub mod Reached
 pub mod Passing

@@ -1,7 +1,6 @@
 -- A tick on the packed queue is the tick: the ready bits that stay, the waiting bits and the input stand one after the other in the queue, and the bits that pass
 -- are the first of the last two.
 use mathlib.Core.Path.{◌≡◌, sym, ap, ◌∙◌}
-use mathlib.Core.Logic.{⊎_elim}
 use mathlib.Core.List.{List, ◌++◌, append_assoc}
 use Prim.Native.Nat.{ℕ, ◌+◌, ◌-◌, ◌*◌, ◌≤◌}
 use native.Mathlib.Omega.{arith}
@@ -14,40 +13,16 @@ use Rattle.bits.proofs.Lists.{Small, small_append}
 use Rattle.bits.proofs.Packed.{pack_past}
 use Rattle.bits.proofs.Parts.{small_part, length_part, take_part, part_drop, part_split, part_pack}
 use Rattle.pace.specs.Tick.{Held, width, moves, moving}
-use Rattle.pace.proofs.Moves.{moves_what_waits, moves_cases}
+use Rattle.pace.proofs.Moves.{moves_what_waits}
 use Rattle.pace.proofs.Kept.{ticked_is}
 use Rattle.line.specs.View.{rule_of, view, holding}
 use Rattle.paced.specs.declared.record.Paced.{Paced}
-use Rattle.paced.specs.declared.answer.Ticked.{Ticked}
+use Rattle.paced.specs.Answers.{counted}
 use Rattle.paced.specs.declared.ticking.Move.{Move}
 use Rattle.paced.specs.View.{viewed, keeping}
 use Rattle.paced.specs.Ticking.{leaving_from}
 use Rattle.paced.specs.Inner.{Open, Passes, ticked_to}
-use Rattle.paced.proofs.Records.{few_d, length_queue, leaving_in, counts_in, held_in}
-
--- a move takes no more than there is
-pub moves_in : (w n : ℕ) → moves w n ≤ n
-moves_in w n = ⊎_elim (λ y. omega arith) (λ y. omega arith) (moves_cases w n)
-
--- the numbers of a tick: rd ready and wt waiting bits, fl fillers, of which lv bits leave
-module _ (p : Paced) (o : Open p) (rd wt fl lv : ℕ) (er : rd ≡ p.ready) (ew : wt ≡ p.waiting) (ef : fl ≡ p.fillers) (el : lv ≡ p.d - fl) where
-  pub leave_few : lv ≤ 117
-  leave_few = omega (arith, few_d p o)
-
-  pub leave_in : lv ≤ rd
-  leave_in = omega (arith, leaving_in p o)
-
-  pub old_is : p.ready + p.waiting ≡ lv + (rd - lv + wt)
-  old_is = omega (arith, leave_in)
-
-  pub old_in : lv + (rd - lv + wt) ≤ 477
-  old_in = omega (arith, old_is, counts_in p o)
-
-  pub new_in : rd - lv + wt + p.d ≤ 477
-  new_in = omega (arith, held_in p o)
-
-  pub move_in : rd - lv + (wt + p.d) ≤ 477
-  move_in = omega (arith, new_in)
+use Rattle.paced.proofs.Records.{length_queue, leaving_in, counts_in, held_in}
 
 module _ (p : Paced) (o : Open p) where
   abbrev pub ready_bits : List ℕ
@@ -158,13 +133,13 @@ module _ (p : Paced) (o : Open p) where
 
       pub tick_is : (still ready fillers : ℕ) → still ≡ p.waiting + p.d - m.count → ready ≡ k + m.count → fillers ≡ p.fillers - p.d
           → record {
-            answer = Ticked.Moved r still;
+            answer = counted r still;
             line = record { line = m.line; d = p.d; closed = p.closed; ready = ready; waiting = still; fillers = fillers; queue = m.queue };
           }
           ≡ ticked_to p input
       tick_is still ready fillers es er ef =
           (λ i. record {
-            answer = Ticked.Moved ((re ∙ sym length_leaving) i) ((es ∙ waiting_is) i);
+            answer = counted ((re ∙ sym length_leaving) i) ((es ∙ waiting_is) i);
             line = record {
               line = line_is i;
               d = p.d;
@@ -175,4 +150,4 @@ module _ (p : Paced) (o : Open p) where
               queue = queue_is i;
             };
           })
-          ∙ ap (λ (h : Held R). record { answer = Ticked.Moved (length (leaving_from p)) (length h.waiting); line = keeping p h }) (sym (ticked_is R p.d (viewed p) (part input 0 p.d)))
+          ∙ ap (λ (h : Held R). record { answer = counted (length (leaving_from p)) (length h.waiting); line = keeping p h }) (sym (ticked_is R p.d (viewed p) (part input 0 p.d)))

@@ -1,5 +1,6 @@
 -- An opening, a tick or a closing whose input passes every test is done; what it wrote are bits, and they are read back where it
 -- wrote them. One with a short buffer, or on a closed line, keeps the record.
+use Rattle.std.specs.Prelude.{Err, Ok}
 use mathlib.Core.Path.{◌≡◌, refl, ap, ◌∙◌}
 use mathlib.Core.Bool.{Bool, true, false, cond}
 use mathlib.Core.Logic.{◌⊎◌, inl, inr}
@@ -17,20 +18,20 @@ use Rattle.bits.proofs.Laid.{part_laid}
 use Rattle.pace.specs.Tick.{closed}
 use Rattle.pace.proofs.Kept.{length_closing}
 use Rattle.refusal.specs.declared.Refusal.{Refusal}
-use Rattle.refusal.specs.declared.Answer.{Answer}
 use Rattle.line.specs.View.{aes, box, settings, rule_of, view}
 use Rattle.line.proofs.Running.{small_outs}
 use Rattle.line.proofs.Passing.{opens as line_opens}
 use Rattle.paced.specs.declared.record.Paced.{Paced}
-use Rattle.paced.specs.declared.answer.Ticked.{Ticked}
-use Rattle.paced.specs.Answers.{outcome, bits_in}
+use Rattle.paced.specs.Answers.{counted, Ticked}
+use Rattle.paced.specs.Answers.{bits_in}
+use Rattle.refusal.specs.Numbers.{outcome}
 use Rattle.paced.specs.View.{viewed, keeping, shut}
 use Rattle.paced.specs.Tests.{faulty}
 use Rattle.paced.specs.Opening.{paced_answer}
 use Rattle.paced.specs.Ticking.{leaving_from, held_after, tick_answer, ticking, tick_writes}
 use Rattle.paced.specs.Closing.{last_from, close_answer, closing, close_writes}
 
-pub opens : (key iv : List ℕ) (l d : ℕ) → length key ≡ 16 → length iv ≡ 16 → 1 ≤ l → l ≤ 11 → 1 ≤ d → d * (l + 1) ≤ 128 * l → paced_answer key iv l d ≡ Answer.Done
+pub opens : (key iv : List ℕ) (l d : ℕ) → length key ≡ 16 → length iv ≡ 16 → 1 ≤ l → l ≤ 11 → 1 ≤ d → d * (l + 1) ≤ 128 * l → paced_answer key iv l d ≡ Ok tt
 unfolding paced_answer
 opens key iv l d hk hv low high some slow =
     rw (line_opens key iv l hk hv low high, ne_eqb d 0 (omega arith), le-ltb (128 * l) (d * (l + 1)) slow)
@@ -59,7 +60,7 @@ module _ (p : Paced) where
 
 module _ (p : Paced) (passes : faulty p ≡ false) (is_open : p.closed ≡ false) where
   module _ (b z : List ℕ) (hb : p.d ≤ 8 * length b) (hz : p.d ≤ 8 * length z) where
-    pub ticks : tick_answer p b z ≡ Ticked.Moved (length (leaving_from p)) (length (held_after p b).waiting)
+    pub ticks : tick_answer p b z ≡ counted (length (leaving_from p)) (length (held_after p b).waiting)
     unfolding tick_answer
     ticks = rw (passes, is_open, le-ltb (length b) ((p.d + 7) / 8) (omega arith), le-ltb (length z) ((p.d + 7) / 8) (omega arith))
 
@@ -73,7 +74,7 @@ module _ (p : Paced) (passes : faulty p ≡ false) (is_open : p.closed ≡ false
     ticks_read = (λ i. part (ticks_write i) 0 (bits_in (ticks i))) ∙ part_laid z 0 (leaving_from p) (small_leaving p) (omega arith)
 
   module _ (z : List ℕ) (hz : p.waiting + p.ready ≤ 8 * length z) where
-    pub closes : close_answer p z ≡ Ticked.Moved (length (last_from p)) 0
+    pub closes : close_answer p z ≡ counted (length (last_from p)) 0
     unfolding close_answer
     closes = rw (passes, is_open, le-ltb (length z) ((p.waiting + p.ready + 7) / 8) (omega arith))
 
@@ -97,8 +98,8 @@ module _ (p : Paced) (passes : faulty p ≡ false) (is_open : p.closed ≡ false
       short = lt-ltb (length z) ((p.d + 7) / 8) (omega arith)
 
       go : (t : Bool)
-          → outcome (cond (faulty p) (Ticked.Refused (Refusal.State)) (cond p.closed (Ticked.Refused (Refusal.Closed)) (cond t (Ticked.Refused (Refusal.Input))
-          (cond (ltb (length z) ((p.d + 7) / 8)) (Ticked.Refused (Refusal.Output)) (Ticked.Moved (length (leaving_from p)) (length (held_after p b).waiting))))))
+          → outcome (cond (faulty p) (Err (Refusal.State)) (cond p.closed (Err (Refusal.Closed)) (cond t (Err (Refusal.Input))
+          (cond (ltb (length z) ((p.d + 7) / 8)) (Err (Refusal.Output)) (counted (length (leaving_from p)) (length (held_after p b).waiting))))))
           (keeping p (held_after p b)) p
           ≡ p
       go true = rw (passes, is_open) refl
@@ -111,10 +112,10 @@ module _ (p : Paced) (passes : faulty p ≡ false) (is_open : p.closed ≡ false
 -- ---- on a closed line
 
 module _ (p : Paced) (passes : faulty p ≡ false) (is_closed : p.closed ≡ true) where
-  pub closed_ticks : (b z : List ℕ) → tick_answer p b z ≡ Ticked.Refused (Refusal.Closed)
+  pub closed_ticks : (b z : List ℕ) → tick_answer p b z ≡ Err (Refusal.Closed)
   unfolding tick_answer
   closed_ticks b z = rw (passes, is_closed) refl
 
-  pub closed_closes : (z : List ℕ) → close_answer p z ≡ Ticked.Refused (Refusal.Closed)
+  pub closed_closes : (z : List ℕ) → close_answer p z ≡ Err (Refusal.Closed)
   unfolding close_answer
   closed_closes z = rw (passes, is_closed) refl

@@ -22,7 +22,7 @@ use Rattle.pace.proofs.Ticks.{hold_is_large, a_tick_writes, closing_sends_the_re
 use Rattle.line.specs.declared.record.Line.{Line}
 use Rattle.line.specs.Tests.{faulty as line_faulty}
 use Rattle.line.specs.View.{box, aes, settings, rule_of, view, holding}
-use Rattle.line.specs.Inner.{Good}
+use Rattle.line.specs.Good.{Good}
 use Rattle.line.proofs.Records.{blackout_of, bits_from_small, passes, holds, within_ran, view_holding, good_ran}
 use Rattle.line.proofs.Running.{small_outs}
 use Rattle.paced.specs.declared.record.Paced.{Paced}

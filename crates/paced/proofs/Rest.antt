@@ -14,7 +14,7 @@ use Rattle.bits.proofs.Laid.{laid_laid}
 use Rattle.line.specs.declared.record.Line.{Line}
 use Rattle.line.specs.View.{rule_of, view, holding}
 use Rattle.paced.specs.declared.record.Paced.{Paced}
-use Rattle.paced.specs.declared.answer.Ticked.{Ticked}
+use Rattle.paced.specs.Answers.{counted}
 use Rattle.paced.specs.Closing.{last_from}
 use Rattle.paced.specs.Inner.{Open, PassedOn, closed_to}
 use Rattle.paced.proofs.Records.{length_queue, counts_in}
@@ -41,7 +41,7 @@ module _ (p : Paced) (o : Open p) where
 
   pub close_is : (d d₁ d₂ : List ℕ) (t : Line) (rd wt : ℕ) → rd ≡ p.ready → wt ≡ p.waiting → d₁ ≡ laid d 0 (part p.queue 0 rd) → PassedOn p.line p.queue rd wt d₁ t d₂
       → (record {
-        answer = Ticked.Moved (rd + wt) 0;
+        answer = counted (rd + wt) 0;
         line = record { line = t; d = p.d; closed = true; ready = 0; waiting = 0; fillers = 0; queue = replicate 60 0 };
       }
       ≡ closed_to p) × (d₂ ≡ laid d 0 (last_from p))
@@ -50,7 +50,7 @@ module _ (p : Paced) (o : Open p) where
       rest.line ∙ (λ i. holding p.line (after R (view p.line) (part p.queue (er i) (ew i)))) in
       let whole : rd + wt ≡ length (last_from p) = (λ i. er i + ew i) ∙ length_last in (
         λ i. record {
-          answer = Ticked.Moved (whole i) 0;
+          answer = counted (whole i) 0;
           line = record { line = passed i; d = p.d; closed = true; ready = 0; waiting = 0; fillers = 0; queue = sym (pack_none 60) i };
         },
         rest.out

@@ -1,13 +1,13 @@
 -- Closing a record (01, "The tick", "Numbers given instead of bits"): the answer, the record and the output, on all inputs.
-use Rattle.std.specs.Prelude.{cond, List, ℕ, ◌+◌, ◌/◌, ltb, length}
+use Rattle.std.specs.Prelude.{Err, cond, List, ℕ, ◌+◌, ◌/◌, ltb, length}
 use Rattle.bits.specs.Bits.{laid}
 use Rattle.pace.specs.Tick.{closing as closing_of, closed}
 use Rattle.refusal.specs.declared.Refusal.{Refusal}
 use Rattle.line.specs.View.{rule_of}
 use Rattle.paced.specs.declared.record.Paced.{Paced}
-use Rattle.paced.specs.declared.answer.Ticked.{Ticked}
-use Rattle.paced.specs.declared.answer.Moved.{Moved}
-use Rattle.paced.specs.Answers.{outcome}
+use Rattle.paced.specs.Answers.{counted, Ticked}
+use Rattle.paced.specs.Answers.{Moved}
+use Rattle.refusal.specs.Numbers.{outcome}
 use Rattle.paced.specs.Tests.{faulty}
 use Rattle.paced.specs.View.{viewed, keeping, shut}
 
@@ -18,10 +18,10 @@ last_from p = closing_of (rule_of p.line) (viewed p)
 -- the first of these that holds: a test for 9, closed, fewer bytes of output than the waiting and the ready bits need; else the bits written, and none waiting
 unfoldable pub close_answer : Paced → List ℕ → Ticked
 close_answer p output =
-    cond (faulty p) (Ticked.Refused (Refusal.State))
-    (cond p.closed (Ticked.Refused (Refusal.Closed))
-    (cond (ltb (length output) ((p.waiting + p.ready + 7) / 8)) (Ticked.Refused (Refusal.Output))
-    (Ticked.Moved (length (last_from p)) 0)))
+    cond (faulty p) (Err (Refusal.State))
+    (cond p.closed (Err (Refusal.Closed))
+    (cond (ltb (length output) ((p.waiting + p.ready + 7) / 8)) (Err (Refusal.Output))
+    (counted (length (last_from p)) 0)))
 
 -- a closed line holds nothing, and its line has taken all waiting bits
 abbrev pub closing : Paced → List ℕ → Moved

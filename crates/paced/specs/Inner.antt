@@ -5,10 +5,10 @@ use Rattle.bits.specs.Bits.{bits_of, pack, part, laid}
 use Rattle.pace.specs.Tick.{hold, width, moves, closed}
 use Rattle.line.specs.declared.record.Line.{Line}
 use Rattle.line.specs.View.{rule_of, view, holding}
-use Rattle.line.specs.Inner.{Good}
+use Rattle.line.specs.Good.{Good}
 use Rattle.paced.specs.declared.record.Paced.{Paced}
-use Rattle.paced.specs.declared.answer.Ticked.{Ticked}
-use Rattle.paced.specs.declared.answer.Moved.{Moved}
+use Rattle.paced.specs.Answers.{counted}
+use Rattle.paced.specs.Answers.{Moved}
 use Rattle.paced.specs.declared.ticking.Move.{Move}
 use Rattle.paced.specs.View.{viewed, keeping, shut}
 use Rattle.paced.specs.Ticking.{leaving_from, held_after}
@@ -27,13 +27,13 @@ pub record Open (p : Paced) : Type 0 where
 -- what a tick that is not refused answers
 abbrev pub ticked_to : Paced → List ℕ → Moved
 ticked_to p input = record {
-  answer = Ticked.Moved (length (leaving_from p)) (length (held_after p input).waiting);
+  answer = counted (length (leaving_from p)) (length (held_after p input).waiting);
   line = keeping p (held_after p input);
 }
 
 abbrev pub closed_to : Paced → Moved
 closed_to p = record {
-  answer = Ticked.Moved (length (last_from p)) 0;
+  answer = counted (length (last_from p)) 0;
   line = shut (keeping p (closed (rule_of p.line) (viewed p)));
 }
 

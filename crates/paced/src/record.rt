@@ -1,7 +1,8 @@
 // A paced line's record: the line's own, D, whether it is closed, and what it holds between ticks (01, "The tick").
 use line::record::Line;
 
-// The queue has the ready bits, oldest first, and then the waiting bits, packed from the top; a bit that holds nothing is 0. M is at most 477.
+// The queue has the ready bits, oldest first, and then the waiting bits, packed from the top; a bit that holds nothing is 0. M is at most 477. The counts are plain
+// numbers beside it, since a host's bytes may stand for any record.
 #[derive(Clone, Copy)]
 pub struct Paced {
     pub line: Line,

@@ -1,34 +1,19 @@
 // The tests for 9 of a paced line's record (01, "Tests for 9").
-ghost use Rattle.std.specs.Prelude.{◌≡◌, ◌≤◌};
+ghost use Rattle.std.specs.Prelude.{◌≡◌, ◌≤◌, cond, Ok, Err, OnOk};
 ghost use Rattle.pace.specs.Tick.{hold};
-ghost use Rattle.paced.specs.Tests.{too_fast, unbalanced, leftover, miscounted, faulty};
+ghost use Rattle.refusal.specs.declared.Refusal.{Refusal};
+ghost use Rattle.paced.specs.Tests.{too_fast, miscounted, faulty};
+ghost use Rattle.paced.specs.Inner.{Open};
 
 use super::record::Paced;
-
-pub(crate) fn wide(x: u16) -> usize
-    ensures { result ≡ x }
-{
-    x as usize
-}
-
-pub(crate) fn long(x: u8) -> u64
-    ensures { result ≡ x }
-{
-    x as u64
-}
+use refusal::Refusal;
 
 // Whether 4 refuses D.
 pub(crate) fn is_too_fast(d: u64, l: u64) -> bool
     requires { l ≤ 11 }
     ensures { result ≡ too_fast d l }
 {
-    if d == 0 {
-        return true;
-    }
-    if 128 < d {
-        return true;
-    }
-    128 * l < d * (l + 1)
+    d == 0 || 128 < d || 128 * l < d * (l + 1)
 }
 
 // M.
@@ -39,48 +24,45 @@ pub(crate) fn hold_of(d: usize) -> usize
     128 + 3 * d - 2
 }
 
-fn is_leftover(waiting: usize, ready: usize, fillers: usize) -> bool
-    ensures { result ≡ leftover waiting ready fillers }
-{
-    (waiting != 0) | (ready != 0) | (fillers != 0)
-}
+impl Paced {
+    // Whether the three counts of a record meet a test, on an open line or on a closed one.
+    fn is_miscounted(&self) -> bool
+        ensures { result ≡ miscounted self.now }
+    {
+        let (waiting, ready) = (self.waiting as usize, self.ready as usize);
+        let (fillers, d) = (self.fillers as usize, self.d as usize);
+        if self.closed {
+            waiting != 0 || ready != 0 || fillers != 0
+        } else {
+            let m = hold_of(d);
+            waiting + ready + fillers != m || m - d < waiting
+        }
+    }
 
-fn is_unbalanced(d: usize, waiting: usize, ready: usize, fillers: usize) -> bool
-    requires { (d ≤ 255) × (waiting ≤ 65535) × (ready ≤ 65535) × (fillers ≤ 65535) }
-    ensures { result ≡ unbalanced d waiting ready fillers }
-{
-    let m = hold_of(d);
-    (waiting + ready + fillers != m) | (m - d < waiting)
-}
+    // Whether a record meets any of the tests.
+    #[tactic(auto, using(line::proofs::Records::passed), unfolding(crate::specs::Tests::faulty))]
+    pub fn is_faulty(&self) -> bool
+        ensures { result ≡ faulty self.now }
+    {
+        if self.line.is_faulty() {
+            return true;
+        }
+        is_too_fast(self.d as u64, self.line.l as u64)
+            || self.is_miscounted()
+            || !bits::is_blank(&self.queue, self.ready as usize + self.waiting as usize)
+    }
 
-// Whether the three counts of a record meet a test, on an open line or on a closed one.
-fn is_miscounted(p: Paced) -> bool
-    ensures { result ≡ miscounted p }
-{
-    let waiting = wide(p.waiting);
-    let ready = wide(p.ready);
-    let fillers = wide(p.fillers);
-    if p.closed {
-        is_leftover(waiting, ready, fillers)
-    } else {
-        is_unbalanced(p.d as usize, waiting, ready, fillers)
+    // What a tick and a closing try first: 9 where the record meets a test, and 8 where the line is closed.
+    pub(crate) fn tested(self) -> Result<(), Refusal>
+        ensures value { result ≡ cond (faulty self) (Err Refusal.State) (cond self.closed (Err Refusal.Closed) (Ok tt)) }
+        ensures opened { OnOk result (Open self) }
+    {
+        if self.is_faulty() {
+            return Err(Refusal::State);
+        }
+        if self.closed {
+            return Err(Refusal::Closed);
+        }
+        Ok(())
     }
-}
-
-// Whether a record meets any of the tests.
-pub fn is_faulty(p: Paced) -> bool
-    ensures { result ≡ faulty p }
-{
-    let line = p.line;
-    if line::tests::is_faulty(line) {
-        return true;
-    }
-    if is_too_fast(long(p.d), long(line.l)) {
-        return true;
-    }
-    if is_miscounted(p) {
-        return true;
-    }
-    let queue = p.queue;
-    !bits::is_blank(&queue, wide(p.ready) + wide(p.waiting))
 }

@@ -1,33 +1,26 @@
 // One tick of a paced line (01, "The tick").
-ghost use Rattle.std.specs.Prelude.{◌≡◌, ◌+◌, ◌-◌, ◌*◌, ◌≤◌, length};
+ghost use Rattle.std.specs.Prelude.{◌≡◌, Ok, ◌+◌, ◌*◌, ◌≤◌, length};
 ghost use Rattle.bits.specs.Bits.{laid};
 ghost use Rattle.pace.specs.Tick.{width};
-ghost use Rattle.line.specs.Inner.{Good};
-ghost use Rattle.paced.specs.Ticking.{leaving_from, ticking, tick_writes};
+ghost use Rattle.line.specs.Good.{Good};
+ghost use Rattle.paced.specs.Ticking.{leaving_from, tick_answer, ticking, tick_writes};
 ghost use Rattle.paced.specs.Inner.{Open, Passes, ticked_to};
 
-use super::answer::{Moved, Ticked};
+use super::counts::Counts;
 use super::record::Paced;
-use super::tests::wide;
-use super::{block, queue, tests};
+use super::{block, queue};
 use line::record::Line;
 use refusal::Refusal;
-
-// a - b, or 0 where that is not positive.
-fn less(a: usize, b: usize) -> usize
-    ensures { result ≡ a - b }
-{
-    if a < b { 0 } else { a - b }
-}
 
 // w.
 fn width_of(left: u16) -> usize
     ensures { result ≡ width left }
 {
     if left == 0 {
-        return 128;
+        128
+    } else {
+        (left as usize).min(128)
     }
-    if left < 128 { left as usize } else { 128 }
 }
 
 // The line and the queue after a move, and the number of bits moved.
@@ -51,81 +44,65 @@ fn passing(line: Line, q: [u8; 60], at: usize, n: usize) -> Move
             count: 0,
         };
     }
-    let b = bits::read(&q, at, w);
-    let t = block::passed(line, b, w);
-    let next = t.line;
-    let out = t.out;
+    let t = block::passed(line, bits::read(&q, at, w), w);
     Move {
-        line: next,
-        queue: queue::replaced(q, at, out, w),
+        line: t.line,
+        queue: queue::replaced(q, at, t.out, w),
         count: w,
     }
 }
 
-// A tick of an open line with bytes enough on both sides.
-fn ticked(p: Paced, input: &[u8], output: &mut [u8]) -> Moved
-    requires opened { Open p }
-    requires room { (p.d ≤ 8 * length input.now) × (p.d ≤ 8 * length output.old) }
-    ensures value { result ≡ ticked_to p input.now }
-    ensures output_after { output.new ≡ laid output.old 0 (leaving_from p) }
-{
-    let d = p.d as usize;
-    let ready = wide(p.ready);
-    let waiting = wide(p.waiting);
-    let fillers = wide(p.fillers);
-    let old = p.queue;
-    let line = p.line;
-    let leaving = less(d, fillers);
-    queue::leave(old, leaving, output);
-    let stay = ready - leaving;
-    let q = queue::joined(old, leaving, stay + waiting, input, d);
-    let m = passing(line, q, stay, waiting + d);
-    let next = m.line;
-    let held = m.queue;
-    let still = (waiting + d - m.count) as u16;
-    Moved {
-        answer: Ticked::Moved(leaving as u16, still),
-        line: Paced {
-            line: next,
-            d: p.d,
-            closed: p.closed,
+impl Paced {
+    // A tick of an open line with bytes enough on both sides.
+    fn ticked(self, input: &[u8], output: &mut [u8]) -> (Counts, Paced)
+        requires opened { Open self }
+        requires room { (self.d ≤ 8 * length input.now) × (self.d ≤ 8 * length output.old) }
+        ensures value { record { answer = Ok result.0; line = result.1 } ≡ ticked_to self input.now }
+        ensures output_after { output.new ≡ laid output.old 0 (leaving_from self) }
+    {
+        let d = self.d as usize;
+        let ready = self.ready as usize;
+        let waiting = self.waiting as usize;
+        let fillers = self.fillers as usize;
+        let leaving = d.saturating_sub(fillers);
+        queue::copy(self.queue, leaving, output);
+        let stay = ready - leaving;
+        let q = queue::joined(self.queue, leaving, stay + waiting, input, d);
+        let m = passing(self.line, q, stay, waiting + d);
+        let queue = m.queue;
+        let still = (waiting + d - m.count) as u16;
+        let counts = Counts {
+            bits: leaving as u16,
+            waiting: still,
+        };
+        let after = Paced {
+            line: m.line,
             ready: (stay + m.count) as u16,
             waiting: still,
-            fillers: less(fillers, d) as u16,
-            queue: held,
-        },
+            fillers: fillers.saturating_sub(d) as u16,
+            queue,
+            ..self
+        };
+        (counts, after)
     }
-}
 
-// Takes D bits of the input, and writes the line bits that leave.
-pub fn tick(p: Paced, input: &[u8], output: &mut [u8]) -> Moved
-    ensures value { result ≡ ticking p input.now output.old }
-    ensures output_after { output.new ≡ tick_writes p input.now output.old }
-{
-    if tests::is_faulty(p) {
-        return Moved {
-            answer: Ticked::Refused(Refusal::State),
-            line: p,
-        };
+    // Takes D bits of the input, and writes the line bits that leave.
+    #[tactic(auto, unfolding(crate::specs::Ticking::tick_answer))]
+    pub fn tick(&mut self, input: &[u8], output: &mut [u8]) -> Result<Counts, Refusal>
+        ensures value { result ≡ tick_answer self.old input.now output.old }
+        ensures line_after { self.new ≡ (ticking self.old input.now output.old).line }
+        ensures output_after { output.new ≡ tick_writes self.old input.now output.old }
+    {
+        self.tested()?;
+        let bytes = (self.d as usize).div_ceil(8);
+        if input.len() < bytes {
+            return Err(Refusal::Input);
+        }
+        if output.len() < bytes {
+            return Err(Refusal::Output);
+        }
+        let (counts, after) = self.ticked(input, output);
+        *self = after;
+        Ok(counts)
     }
-    if p.closed {
-        return Moved {
-            answer: Ticked::Refused(Refusal::Closed),
-            line: p,
-        };
-    }
-    let bytes = (p.d as usize + 7) / 8;
-    if input.len() < bytes {
-        return Moved {
-            answer: Ticked::Refused(Refusal::Input),
-            line: p,
-        };
-    }
-    if output.len() < bytes {
-        return Moved {
-            answer: Ticked::Refused(Refusal::Output),
-            line: p,
-        };
-    }
-    ticked(p, input, output)
 }

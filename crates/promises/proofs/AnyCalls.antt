@@ -13,7 +13,7 @@ use Rattle.bits.specs.Bits.{part}
 use Rattle.bits.proofs.Lists.{Small, small_append}
 use Rattle.bits.proofs.Parts.{small_part, length_part}
 use Rattle.line.specs.declared.record.Line.{Line}
-use Rattle.line.specs.Inner.{Good}
+use Rattle.line.specs.Good.{Good}
 use Rattle.pace.specs.Ticks.{joined, Each}
 use Rattle.pace.proofs.More.{joined_more, each_more}
 use Rattle.paced.specs.declared.record.Paced.{Paced}

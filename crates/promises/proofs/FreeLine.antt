@@ -1,5 +1,6 @@
 -- Demand 2 for the free line, in one call or many: what comes out is the mode with FIPS 197's AES-128 over the counter; an end opened the same but for
 -- direction turns it back; and no record reached from an opening meets a test for 9.
+use Rattle.std.specs.Prelude.{Ok, Err}
 use mathlib.Core.Path.{◌≡◌, refl, sym, ap, subst, ◌∙◌}
 use mathlib.Core.Bool.{Bool, true, false}
 use mathlib.Core.List.{List, [], ◌∷◌, ◌++◌}
@@ -7,8 +8,7 @@ use Prim.Native.Nat.{ℕ, ◌+◌, ◌*◌, ◌/◌, ◌<◌, ◌≤◌}
 use native.Mathlib.Omega.{arith}
 use lib.ListN.{length, take, drop}
 use borrow.Author.Tests.{ltb-false}
-use Rattle.refusal.specs.declared.Answer.{Answer}
-use Rattle.refusal.specs.Numbers.{outcome}
+use Rattle.refusal.specs.Numbers.{Answer, outcome}
 use Rattle.aes.specs.Cipher.{aes128}
 use Rattle.aes.proofs.Schedule.{aes_length}
 use Rattle.bits.specs.Bits.{bits_of, pack, part, laid}
@@ -27,7 +27,7 @@ use Rattle.line.specs.declared.record.Line.{Line}
 use Rattle.line.specs.View.{box, aes, settings, rule_of, view, holding}
 use Rattle.line.specs.Tests.{faulty}
 use Rattle.line.specs.Free.{fresh, zero_line, opening, run_answer, running, written}
-use Rattle.line.specs.Inner.{Good}
+use Rattle.line.specs.Good.{Good}
 use Rattle.line.proofs.Records.{bits_from_small, view_ran, good_ran, passes, holds}
 use Rattle.line.proofs.Passing.{opens, good_fresh}
 use Rattle.line.proofs.Running.{small_outs}
@@ -36,7 +36,7 @@ use Rattle.promises.proofs.Refusals.{run_tests, run_tries, done_exactly}
 
 -- ---- a run that is not refused
 
-module _ (g : Line) (n : ℕ) (input output : List ℕ) (done : run_answer g n input output ≡ Answer.Done) where
+module _ (g : Line) (n : ℕ) (input output : List ℕ) (done : run_answer g n input output ≡ Ok tt) where
   pub ran_line : (running g n input output).line ≡ holding g (after (rule_of g) (view g) (part input 0 n))
   ran_line = ap (λ (a : Answer). outcome a (holding g (after (rule_of g) (view g) (part input 0 n))) g) done
 
@@ -75,8 +75,8 @@ module _ where
 -- ---- any calls, refused or not
 
 kept_good : (a : Answer) (g h : Line) → Good g → Good h → Good (outcome a g h)
-kept_good (Answer.Done) g h ok ok' = ok
-kept_good (Answer.Refused r) g h ok ok' = ok'
+kept_good (Ok tt) g h ok ok' = ok
+kept_good (Err r) g h ok ok' = ok'
 
 all_good : (cs : List Call) (g : Line) → Good g → Good (line g cs)
 all_good [] g ok = ok
@@ -93,7 +93,7 @@ module _ (key iv : List ℕ) (pattern l : ℕ) (low : 1 ≤ l) (high : l ≤ 11)
 
   -- an opening that no test refuses gives the line that all this is about
   pub opened_is : length key ≡ 16 → length iv ≡ 16 → (receiving : Bool)
-      → opening key iv pattern l receiving ≡ record { answer = Answer.Done; line = fresh key iv pattern l receiving }
+      → opening key iv pattern l receiving ≡ record { answer = Ok tt; line = fresh key iv pattern l receiving }
   opened_is hk hv receiving = ap (λ (a : Answer). record { answer = a; line = outcome a (fresh key iv pattern l receiving) zero_line }) (opens key iv l hk hv low high)
 
   -- no record reached from an opening by runs, refused ones among them, meets a test for 9

@@ -1,5 +1,6 @@
 -- Demand 1 at the host's boundary: a buffer that is too short or holds no record of the kind is refused 9, whatever else is given; whatever is refused leaves
 -- every lent buffer as it was, with counts of 0.
+use Rattle.std.specs.Prelude.{Ok, Err}
 use mathlib.Core.Path.{◌≡◌, refl, ap}
 use mathlib.Core.Bool.{Bool, true, false, cond}
 use mathlib.Core.List.{List}
@@ -7,11 +8,9 @@ use Prim.Native.Nat.{ℕ, ◌<◌}
 use lib.Dec.{leb}
 use lib.ListN.{length}
 use borrow.Author.Tests.{lt-leb}
-use Rattle.refusal.specs.declared.Answer.{Answer}
-use Rattle.refusal.specs.Numbers.{number_of, outcome}
+use Rattle.refusal.specs.Numbers.{Answer, number_of, outcome}
 use Rattle.line.specs.Free.{opening, running}
-use Rattle.paced.specs.declared.answer.Ticked.{Ticked}
-use Rattle.paced.specs.Answers.{outcome as tick_outcome}
+use Rattle.paced.specs.Answers.{Ticked}
 use Rattle.paced.specs.Opening.{opening as paced_opening}
 use Rattle.paced.specs.Ticking.{ticking}
 use Rattle.paced.specs.Closing.{closing}
@@ -44,8 +43,8 @@ module _ (s input output : List ℕ) where
 
 kept : (b : Bool) (a : Answer) (x y : List ℕ) → (cond b (number_of a) 9 ≡ 0 → ⊥) → cond b (outcome a x y) y ≡ y
 kept false a x y h = refl
-kept true (Answer.Refused r) x y h = refl
-kept true (Answer.Done) x y h = absurd (h refl)
+kept true (Err r) x y h = refl
+kept true (Ok tt) x y h = absurd (h refl)
 
 module _ (s key iv : List ℕ) (pattern l direction d : ℕ) where
   pub refused_free_opening_keeps : (opened_answer s key iv pattern l direction ≡ 0 → ⊥) → opened_buffer s key iv pattern l direction ≡ s
@@ -66,10 +65,10 @@ module _ (s input output : List ℕ) where
 
   -- record, output and both counts, for a tick and for a closing
   moved_keeps : (b : Bool) (a : Ticked) (x y : List ℕ) → ((cond b (answer_of a) nine).refusal ≡ 0 → ⊥)
-      → (cond b (tick_outcome a x s) s ≡ s) × (cond b (tick_outcome a y output) output ≡ output) × ((cond b (answer_of a) nine).bits ≡ 0) × ((cond b (answer_of a) nine).waiting ≡ 0)
+      → (cond b (outcome a x s) s ≡ s) × (cond b (outcome a y output) output ≡ output) × ((cond b (answer_of a) nine).bits ≡ 0) × ((cond b (answer_of a) nine).waiting ≡ 0)
   moved_keeps false a x y h = (refl, refl, refl, refl)
-  moved_keeps true (Ticked.Refused r) x y h = (refl, refl, refl, refl)
-  moved_keeps true (Ticked.Moved n w) x y h = absurd (h refl)
+  moved_keeps true (Err r) x y h = (refl, refl, refl, refl)
+  moved_keeps true (Ok c) x y h = absurd (h refl)
 
   pub refused_tick_keeps : ((ticked_answer s input output).refusal ≡ 0 → ⊥)
       → (ticked_buffer s input output ≡ s) × (ticked_output s input output ≡ output) × ((ticked_answer s input output).bits ≡ 0) × ((ticked_answer s input output).waiting ≡ 0)

@@ -1,14 +1,14 @@
 -- Demand 3 for the public paced line, sending and receiving in one statement over the direction: the records that ticks reach from an opening are those of
 -- paced's `Reached`, so no test for 9 holds of them, no tick with long enough buffers is refused, and what is written is what `pace` sends. So demand 2 holds of
 -- paced lines too.
+use Rattle.std.specs.Prelude.{Ok}
 use mathlib.Core.Path.{◌≡◌, refl, sym, ap, subst, ◌∙◌}
 use mathlib.Core.Bool.{Bool, true, false}
 use mathlib.Core.List.{List, [], ◌∷◌, ◌++◌, append-nil, append_assoc}
 use Prim.Native.Nat.{ℕ, suc, ◌+◌, ◌-◌, ◌*◌, ◌/◌, ◌<◌, ◌≤◌}
 use native.Mathlib.Omega.{arith}
 use lib.ListN.{length, take}
-use Rattle.refusal.specs.declared.Answer.{Answer}
-use Rattle.refusal.specs.Numbers.{outcome}
+use Rattle.refusal.specs.Numbers.{Answer, number_of, outcome}
 use Rattle.bits.specs.Bits.{part}
 use Rattle.bits.proofs.Lists.{Small, small_append}
 use Rattle.bits.proofs.Parts.{small_part, length_part}
@@ -16,7 +16,7 @@ use Rattle.mode.specs.Rule.{Rule, outs, Blackout}
 use Rattle.line.specs.declared.record.Line.{Line}
 use Rattle.line.specs.View.{rule_of, view}
 use Rattle.line.specs.Free.{fresh}
-use Rattle.line.specs.Inner.{Good}
+use Rattle.line.specs.Good.{Good}
 use Rattle.line.proofs.Records.{blackout_of, bits_from_small}
 use Rattle.line.proofs.Passing.{good_fresh}
 use Rattle.pace.specs.Tick.{hold, Held, opened, written}
@@ -24,7 +24,7 @@ use Rattle.pace.specs.Ticks.{sent, joined, Each}
 use Rattle.pace.proofs.Ticks.{sent_is_the_first, hold_is_large}
 use Rattle.pace.proofs.More.{joined_more, each_more, ticks_more}
 use Rattle.paced.specs.declared.record.Paced.{Paced}
-use Rattle.paced.specs.Answers.{number_of, bits_in}
+use Rattle.paced.specs.Answers.{bits_in}
 use Rattle.paced.specs.Tests.{faulty}
 use Rattle.paced.specs.Ticking.{tick_answer, ticking}
 use Rattle.paced.specs.Closing.{close_answer, close_writes}
@@ -118,7 +118,7 @@ module _ (key iv : List ℕ) (pattern l : ℕ) (low : 1 ≤ l) (high : l ≤ 11)
 
   -- an opening that no test refuses gives the line that all this is about
   pub opened_is : length key ≡ 16 → length iv ≡ 16 → (receiving : Bool)
-      → opening key iv pattern l receiving D ≡ record { answer = Answer.Done; line = fresh_paced (end receiving) D }
+      → opening key iv pattern l receiving D ≡ record { answer = Ok tt; line = fresh_paced (end receiving) D }
   opened_is hk hv receiving =
       ap (λ (a : Answer). record { answer = a; line = outcome a (fresh_paced (end receiving) D) zero_paced }) (opens key iv l D hk hv low high some rate)
 

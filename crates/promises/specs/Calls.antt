@@ -1,7 +1,7 @@
 -- Words for several calls: tests tried in an order, and a line run in several calls.
-use Rattle.std.specs.Prelude.{◌≡◌, Bool, cond, List, [], ◌∷◌, ◌++◌, ℕ}
+use Rattle.std.specs.Prelude.{Ok, Err, ◌≡◌, Bool, cond, List, [], ◌∷◌, ◌++◌, ℕ}
 use Rattle.refusal.specs.declared.Refusal.{Refusal}
-use Rattle.refusal.specs.declared.Answer.{Answer}
+use Rattle.refusal.specs.Numbers.{Answer}
 use Rattle.bits.specs.Bits.{part}
 use Rattle.line.specs.declared.record.Line.{Line}
 use Rattle.line.specs.Free.{run_answer, running, written}
@@ -13,8 +13,8 @@ pub record Test : Type 0 where
 
 -- the tests are tried in order, and the first that holds decides
 abbrev pub tried : List Test → Answer
-tried [] = Answer.Done
-tried (t ∷ ts) = cond t.holds (Answer.Refused t.refusal) (tried ts)
+tried [] = Ok tt
+tried (t ∷ ts) = cond t.holds (Err t.refusal) (tried ts)
 
 -- one call of a run: so many bits, the input, the output as it was lent
 pub record Call : Type 0 where
@@ -31,7 +31,7 @@ module _ where
   -- none of them is refused
   abbrev pub AllDone : Line → List Call → Type 0
   AllDone g [] = Unit {0}
-  AllDone g (c ∷ cs) = (run_answer g c.bits c.input c.output ≡ Answer.Done) × AllDone (running g c.bits c.input c.output).line cs
+  AllDone g (c ∷ cs) = (run_answer g c.bits c.input c.output ≡ Ok tt) × AllDone (running g c.bits c.input c.output).line cs
 
   -- all the bits given, and all the bits that stand in the outputs
   abbrev pub given : List Call → List ℕ

@@ -3,4 +3,3 @@ pub mod Places
 pub mod Lines
 pub mod Paces
 pub mod RoundTrips
-pub mod Settled

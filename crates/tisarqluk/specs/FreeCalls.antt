@@ -1,12 +1,13 @@
--- A free line for a host (01, "The equipment covered"): what the calls by value give, between loading the record and storing it.
+-- A free line for a host (01, "The equipment covered"): what the calls on a line give, between loading the record and storing it.
 use Rattle.std.specs.Prelude.{Bool, not, cond, List, ℕ, eqb, leb, length}
 use Rattle.refusal.specs.Numbers.{number_of, outcome}
-use Rattle.line.specs.declared.free.Reply.{Reply}
+use Rattle.refusal.specs.declared.Reply.{Reply}
+use Rattle.line.specs.declared.record.Line.{Line}
 use Rattle.line.specs.Free.{opening, running, written}
 use Rattle.tisarqluk.specs.FreeRecord.{line_in, stored_free, holds_free}
 
--- what a buffer holds after a call by value: the line that it gave, and on a refusal what it held
-abbrev pub kept : Reply → List ℕ → List ℕ
+-- what a buffer holds after a call on a line: the line that it gave, and on a refusal what it held
+abbrev pub kept : Reply (Unit {0}) Line → List ℕ → List ℕ
 kept r s = outcome r.answer (stored_free r.line s) s
 
 -- direction: 0 sends, any other receives

@@ -2,3 +2,4 @@ pub mod FreeRecord
 pub mod PacedRecord
 pub mod FreeCalls
 pub mod PacedCalls
+pub mod Inner

@@ -1,10 +1,9 @@
--- A paced line for a host (01, "The equipment covered"): what the calls by value give, between loading the record and storing it.
+-- A paced line for a host (01, "The equipment covered"): what the calls on a line give, between loading the record and storing it.
 use Rattle.std.specs.Prelude.{cond, List, ℕ, leb, length}
 use Rattle.refusal.specs.Numbers.{number_of, outcome}
-use Rattle.paced.specs.declared.answer.Reply.{Reply}
-use Rattle.paced.specs.declared.answer.Ticked.{Ticked}
-use Rattle.paced.specs.declared.answer.Moved.{Moved}
-use Rattle.paced.specs.Answers.{bits_in, waiting_in, number_of as tick_number, outcome as tick_outcome}
+use Rattle.refusal.specs.declared.Reply.{Reply}
+use Rattle.paced.specs.declared.record.Paced.{Paced}
+use Rattle.paced.specs.Answers.{Ticked, Moved, bits_in, waiting_in}
 use Rattle.paced.specs.Opening.{opening}
 use Rattle.paced.specs.Ticking.{ticking, tick_writes}
 use Rattle.paced.specs.Closing.{closing, close_writes}
@@ -14,17 +13,17 @@ use Rattle.tisarqluk.specs.PacedRecord.{paced_in, stored_paced, holds_paced}
 
 -- the answer of a tick or a closing as a host has it
 abbrev pub answer_of : Ticked → TqAnswer
-answer_of a = record { refusal = tick_number a; bits = bits_in a; waiting = waiting_in a }
+answer_of a = record { refusal = number_of a; bits = bits_in a; waiting = waiting_in a }
 
 abbrev pub nine : TqAnswer
 nine = record { refusal = 9; bits = 0; waiting = 0 }
 
--- what a buffer holds after a call by value: the line that it gave, and on a refusal what it held
-abbrev pub opened_kept : Reply → List ℕ → List ℕ
+-- what a buffer holds after a call on a line: the line that it gave, and on a refusal what it held
+abbrev pub opened_kept : Reply (Unit {0}) Paced → List ℕ → List ℕ
 opened_kept r s = outcome r.answer (stored_paced r.line s) s
 
 abbrev pub moved_kept : Moved → List ℕ → List ℕ
-moved_kept m s = tick_outcome m.answer (stored_paced m.line s) s
+moved_kept m s = outcome m.answer (stored_paced m.line s) s
 
 -- ---- opening: a buffer that is too short is refused 9, before anything else
 

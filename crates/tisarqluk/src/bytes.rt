@@ -1,31 +1,20 @@
-// Bytes laid in a buffer from a place on, and taken out of one.
-ghost use Rattle.std.specs.Prelude.{◌≡◌, ◌+◌, ◌*◌, ◌≤◌, length, take, drop};
-ghost use Rattle.std.proofs.Math.Seq.{paste};
+// Bytes and numbers taken out of a buffer from a place on.
+ghost use Rattle.std.specs.Prelude.{◌≡◌, ◌+◌, ◌*◌, ◌≤◌, length, take, drop, get_or};
 
-// Writes all of a into a buffer from byte `at` on.
-pub(crate) fn put(buf: &mut [u8], at: usize, a: &[u8])
-    requires { at + length a.now ≤ length buf.old }
-    ensures { buf.new ≡ paste buf.old at a.now (length a.now) }
+// The N bytes from byte `at` on.
+pub(crate) fn array<const N: usize>(buf: &[u8], at: usize) -> [u8; N]
+    requires { at + N ≤ length buf.now }
+    ensures { result ≡ take N (drop at buf.now) }
 {
-    let mut j: usize = 0;
-    while j < a.len() {
-        buf[at + j] = a[j];
-        j += 1;
-    }
+    let mut a = [0; N];
+    a.copy_from_slice(&buf[at..at + N]);
+    a
 }
 
-// Fills all of a from a buffer, from byte `at` on.
-pub(crate) fn fill(a: &mut [u8], buf: &[u8], at: usize)
-    requires { at + length a.old ≤ length buf.now }
-    ensures { a.new ≡ take (length a.old) (drop at buf.now) }
+// The number of the two bytes from byte `at` on, the higher first.
+pub(crate) fn number(buf: &[u8], at: usize) -> u16
+    requires { at + 2 ≤ length buf.now }
+    ensures { result ≡ get_or buf.now at 0 * 256 + get_or buf.now (at + 1) 0 }
 {
-    let end = at + a.len();
-    put(a, 0, &buf[at..end]);
-}
-
-// The number of two bytes, the higher first.
-pub(crate) fn pair(high: u8, low: u8) -> u16
-    ensures { result ≡ high * 256 + low }
-{
-    (high as u16) * 256 + (low as u16)
+    u16::from_be_bytes([buf[at], buf[at + 1]])
 }

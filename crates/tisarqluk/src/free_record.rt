@@ -1,38 +1,24 @@
 // A free line's record in a lent buffer (docs/RECORD.md), and the part that a paced line's record shares with it.
 ghost use Rattle.std.specs.Prelude.{◌≡◌, ◌++◌, ◌≤◌, length, drop};
-ghost use Rattle.tisarqluk.specs.FreeRecord.{settings_of, numbers_of, line_bytes, line_in, holds_free};
+ghost use Rattle.tisarqluk.specs.FreeRecord.{line_bytes, line_in as line_in_of, stored_free, holds_free};
 
 use super::bytes;
+use super::record::Record;
 use counter::Position;
 use line::record::Line;
 
-// The length of a free line's record, and its byte 0: the letter F.
-pub(crate) const BYTES: usize = 58;
+// Byte 0.
+const KIND: u8 = b'F';
 
-pub(crate) const KIND: u8 = 70;
-
-// Whether a buffer is long enough, and its bytes stand for a free line's record.
-pub(crate) fn holds_free(buf: &[u8]) -> bool
-    ensures { result ≡ holds_free buf.now }
-{
-    if buf.len() < BYTES {
-        return false;
-    }
-    (buf[0] == KIND) & (buf[3] <= 1)
-}
-
-// The line that stands in a buffer.
+// The line that stands in a buffer, which has a record of either kind and says so in no type of its own.
+#[tactic(auto, unfolding(crate::specs::FreeRecord::line_in))]
 pub(crate) fn line_in(buf: &[u8]) -> Line
     requires { 58 ≤ length buf.now }
-    ensures { result ≡ line_in buf.now }
+    ensures { result ≡ line_in_of buf.now }
 {
-    let mut key = [0u8; 16];
-    let mut counter = [0u8; 16];
-    let mut iv = [0u8; 16];
-    bytes::fill(&mut key, buf, 4);
-    bytes::fill(&mut counter, buf, 20);
-    bytes::fill(&mut iv, buf, 41);
-    let left = bytes::pair(buf[39], buf[40]);
+    let key = bytes::array(buf, 4);
+    let counter = bytes::array(buf, 20);
+    let iv = bytes::array(buf, 41);
     Line {
         key,
         pattern: buf[2],
@@ -44,49 +30,47 @@ pub(crate) fn line_in(buf: &[u8]) -> Line
         },
         window: buf[37],
         seen: buf[38],
-        left,
+        left: bytes::number(buf, 39),
         iv,
         collected: buf[57],
     }
 }
 
-// Bytes 0 to 3.
-fn settings(kind: u8, s: Line) -> [u8; 4]
-    ensures { result ≡ settings_of kind s }
-{
-    [kind, s.l, s.pattern, s.receiving as u8]
-}
-
-// Bytes 36 to 40.
-fn numbers(s: Line) -> [u8; 5]
-    ensures { result ≡ numbers_of s }
-{
-    let p = s.position;
-    [
-        p.place,
-        s.window,
-        s.seen,
-        (s.left / 256) as u8,
-        (s.left % 256) as u8,
-    ]
-}
-
 // Writes the first 58 bytes of a record of this kind.
-pub(crate) fn put_line(kind: u8, s: Line, buf: &mut [u8])
+pub(crate) fn put_line(kind: u8, line: Line, buf: &mut [u8])
     requires { 58 ≤ length buf.old }
-    ensures { buf.new ≡ line_bytes kind s ++ drop 58 buf.old }
+    ensures { buf.new ≡ line_bytes kind line ++ drop 58 buf.old }
 {
-    let first = settings(kind, s);
-    let key = s.key;
-    let p = s.position;
-    let counter = p.counter;
-    let middle = numbers(s);
-    let iv = s.iv;
-    let last = [s.collected];
-    bytes::put(buf, 0, &first);
-    bytes::put(buf, 4, &key);
-    bytes::put(buf, 20, &counter);
-    bytes::put(buf, 36, &middle);
-    bytes::put(buf, 41, &iv);
-    bytes::put(buf, 57, &last);
+    let p = line.position;
+    let [high, low] = line.left.to_be_bytes();
+    buf[..4].copy_from_slice(&[kind, line.l, line.pattern, u8::from(line.receiving)]);
+    buf[4..20].copy_from_slice(&line.key);
+    buf[20..36].copy_from_slice(&p.counter);
+    buf[36..41].copy_from_slice(&[p.place, line.window, line.seen, high, low]);
+    buf[41..57].copy_from_slice(&line.iv);
+    buf[57] = line.collected;
+}
+
+impl Record for Line {
+    ghost BYTES = { 58 };
+
+    ghost holds = { holds_free };
+
+    ghost loaded = { line_in_of };
+
+    ghost stored = { stored_free };
+
+    const BYTES: usize = 58;
+
+    #[tactic(auto, unfolding(crate::specs::FreeRecord::holds_free))]
+    fn load(buf: &[u8]) -> Option<Line> {
+        if buf.len() < Line::BYTES || buf[0] != KIND || 1 < buf[3] {
+            return None;
+        }
+        Some(line_in(buf))
+    }
+
+    fn store(self, buf: &mut [u8]) {
+        put_line(KIND, self, buf);
+    }
 }

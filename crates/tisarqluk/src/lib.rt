@@ -6,6 +6,7 @@ pub mod free_calls;
 mod free_record;
 pub mod paced_calls;
 mod paced_record;
+mod record;
 
 ghost use Rattle.std.specs.Prelude.{◌≡◌};
 ghost use Rattle.refusal.specs.Numbers.{number_of};
@@ -16,6 +17,5 @@ pub fn tq_aes128(key: &[u8], input: &[u8], output: &mut [u8]) -> u32
     ensures value { result ≡ number_of (answer key.now input.now output.old) }
     ensures output_after { output.new ≡ after key.now input.now output.old }
 {
-    let a = aes::block(key, input, output);
-    refusal::code(a)
+    refusal::code(aes::block(key, input, output))
 }

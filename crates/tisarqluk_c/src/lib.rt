@@ -1,4 +1,4 @@
-// What C and Rust link: each call of `tisarqluk`, exported under its own name and with its own clauses (include/tisarqluk.h).
+// What C and Rust link: each call of `tisarqluk`, exported under its own name and with its own clauses (include/tisarqluk.h). C has numbers, where Rust has types.
 #![tactic(auto)]
 
 ghost use Rattle.std.specs.Prelude.{◌≡◌};

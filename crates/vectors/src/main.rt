@@ -8,41 +8,21 @@
 // Each ciphertext is what `openssl enc -aes-128-ecb -nopad -K KEY` (OpenSSL 3.0) makes of the plaintext.
 #![tactic(auto)]
 
-ghost use Rattle.std.specs.Prelude.{◌≤◌};
-
 use std::io;
 use std::io::Input;
 
-// 1 where the case agrees, and 0 where it does not.
-fn agrees(case: &[u8]) -> u64
-    ensures { result ≤ 1 }
-{
-    if case.len() < 48 {
-        return 0;
-    }
-    let mut got = [0u8; 16];
-    let _answer = aes::block(&case[0..16], &case[16..32], &mut got);
-    if check::same(&got, &case[32..48]) {
-        return 1;
-    }
-    0
-}
-
-// How many of the cases agree.
-fn agreeing(cases: &[u8]) -> u64 {
-    let mut same: u64 = 0;
-    let mut at: usize = 0;
-    while 48 <= cases.len() - at {
-        same += agrees(&cases[at..at + 48]);
-        at += 48;
-    }
-    same
+// Whether the case agrees.
+fn agrees(case: &[u8; 48]) -> bool {
+    let mut got = [0; 16];
+    aes::block(&case[..16], &case[16..32], &mut got).is_ok() && got[..] == case[32..]
 }
 
 fn main(rt: HostRuntime) -> io::Result<()> {
-    let mut buf = [0u8; 16384];
-    let n = console::read_input(&mut rt.reader(), &mut buf).bytes;
-    let same = agreeing(&buf[..n]);
-    let all = n / 48;
+    let mut buf = [0; 16384];
+    // A read that fails ends the cases.
+    let n = console::read_input(&mut rt.reader(), &mut buf).unwrap_or_else(|cut_off| cut_off.bytes);
+    let (cases, _) = buf[..n].as_chunks::<48>();
+    let all = cases.len();
+    let same = cases.iter().filter(|case| agrees(case)).count();
     println!(rt; "vectors {all} same {same}")
 }

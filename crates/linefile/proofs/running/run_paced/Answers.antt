@@ -1,58 +1,40 @@
 -- The settings pass, so that the line opens; the loop keeps `Pacing`, and closing sends the rest.
-use mathlib.Core.Path.{◌≡◌}
-use Prim.Native.Nat.{◌+◌, ◌<◌}
-use native.Mathlib.Omega.{arith}
-use lib.ListN.{length}
-use borrow.Author.Rules.{rules}
-use Rattle.linefile.proofs.Pacing.{Pacing, pacing, can_tick, paced_on, can_close, paced_all, paced_length}
+use Rattle.std.proofs.Common.{sym, ◌∙◌, arith, rules}
+use Rattle.refusal.proofs.Answers.{refused_not_done}
+use Rattle.linefile.proofs.Pacing.{paced_opens, pacing, can_tick, paced_on, can_close, paced_all}
 use Rattle.linefile.proofs.running.run_paced.Goals as goal
+use Rattle.linefile.proofs.running.run_paced.Goals.{else-loop-i-test, then-loop-i-test+in_ok-tick+else-d-i-end}
+
+pub returns-in_err-line : goal.returns-in_err-line
+returns-in_err-line c =
+    absurd (refused_not_done _ _ (sym c.in_err-line.was ∙ (rw (c.into.ensures.0, c.into.ensures.1, c.into.ensures.2, c.into.ensures.3, c.into.ensures.4) at c.opened.ensures) ∙ paced_opens _ _ _ _ _ (search rules) c.requires (search rules) (search rules)))
 
 pub loop-i-init : goal.loop-i-init
-loop-i-init c =
-    let k : (length c.args.c.key ≡ 16) × (length c.args.c.iv ≡ 16) × (c.args.c.pattern < 256) = (search rules, search rules, search rules) in
-    pacing c.args.c c.args.file.now c.args.from c.args.n c.args.output.now k.2 c.requires c.open-opened.result k.0 k.1 c.open-opened.ensures
+loop-i-init c = pacing _ _ _ _ _ (search rules) c.requires _ (sym (rw (c.into.ensures.0, c.into.ensures.1, c.into.ensures.2, c.into.ensures.3, c.into.ensures.4) at c.opened.ensures) ∙ c.in_ok-line.was) (search rules) (search rules)
 
-pub overflow_add-from : goal.overflow_add-from
-overflow_add-from c = omega (arith, c.loop-i-test.true, c.requires.few)
-
-pub tick_on-next-requires : goal.tick_on-next-requires
-tick_on-next-requires c =
-    let l = c.loop-i in
-    can_tick c.args.c c.args.file.now c.args.from c.args.n c.args.output.now (search rules) c.requires l.output l.g l.i l.invariant c.loop-i-test.true
-
-pub loop-i-smaller : goal.loop-i-smaller
-loop-i-smaller c = omega (arith, c.loop-i-test.true, c.requires.some)
-
-pub overflow_add-i : goal.overflow_add-i
-overflow_add-i c =
-    let l = c.loop-i in
-    let t = c.tick_on-next in
-    let a : Pacing c.args.c c.args.file.now c.args.from c.args.n c.args.output.now c.tick_on-next.new.output t.result (l.i + c.args.c.d) =
-    paced_on c.args.c c.args.file.now c.args.from c.args.n c.args.output.now (search rules) c.requires l.output l.g l.i l.invariant
-    c.loop-i-test.true _ t.result t.ensures.value t.ensures.output_after in
-    omega (arith, a.high, c.requires.few)
+pub tick-requires : goal.tick-requires
+tick-requires c = can_tick _ _ _ _ _ (search rules) c.requires _ _ _ c.loop-i.invariant c.loop-i-test.true
 
 pub loop-i-preserved : goal.loop-i-preserved
 loop-i-preserved c =
-    let l = c.loop-i in
-    let t = c.tick_on-next in
-    paced_on c.args.c c.args.file.now c.args.from c.args.n c.args.output.now (search rules) c.requires l.output l.g l.i l.invariant
-    c.loop-i-test.true _ t.result t.ensures.value t.ensures.output_after
+    paced_on _ _ _ _ _ (search rules) c.requires _ _ _ c.loop-i.invariant c.loop-i-test.true _ _ c.tick.ensures.going_after c.tick.ensures.output_after
 
-pub close_on-requires : goal.close_on-requires
-close_on-requires c =
-    let l = c.loop-i in
-    can_close c.args.c c.args.file.now c.args.from c.args.n c.args.output.now (search rules) c.requires l.output l.g l.i l.invariant c.loop-i-test.false
+pub close-requires : goal.close-requires
+close-requires c =
+    elim c.loop-i-test.branch [
+      | else-loop-i-test w ↦ rw (w.output-is, w.going-is) (can_close _ _ _ _ _ (search rules) c.requires _ _ _ c.loop-i.invariant w.loop-i-test.false)
+      | then-loop-i-test+in_ok-tick+else-d-i-end w ↦
+          let last = paced_on _ _ _ _ _ (search rules) c.requires _ _ _ c.loop-i.invariant w.loop-i-test.true _ _ w.tick.ensures.going_after w.tick.ensures.output_after in
+          rw (w.output-is, w.going-is) (can_close _ _ _ _ _ (search rules) c.requires _ _ _ last (omega arith))
+    ]
 
-pub shape_of-output : goal.shape_of-output
-shape_of-output c =
-    let l = c.loop-i in
-    paced_length c.args.c c.args.file.now c.args.from c.args.n c.args.output.now (search rules) c.requires _
-    (paced_all c.args.c c.args.file.now c.args.from c.args.n c.args.output.now (search rules) c.requires l.output l.g l.i l.invariant
-    c.loop-i-test.false _ c.close_on.ensures)
-
-pub returns : goal.returns
-returns c =
-    let l = c.loop-i in
-    paced_all c.args.c c.args.file.now c.args.from c.args.n c.args.output.now (search rules) c.requires l.output l.g l.i l.invariant
-    c.loop-i-test.false _ c.close_on.ensures
+pub returns-clause-output_after : goal.returns-clause-output_after
+returns-clause-output_after c =
+    elim c.loop-i-test.branch [
+      | else-loop-i-test w ↦
+          paced_all _ _ _ _ _ (search rules) c.requires _ _ _ c.loop-i.invariant w.loop-i-test.false _
+          (rw (w.output-is, w.going-is) at c.close.ensures.output_after)
+      | then-loop-i-test+in_ok-tick+else-d-i-end w ↦
+          let last = paced_on _ _ _ _ _ (search rules) c.requires _ _ _ c.loop-i.invariant w.loop-i-test.true _ _ w.tick.ensures.going_after w.tick.ensures.output_after in
+          paced_all _ _ _ _ _ (search rules) c.requires _ _ _ last (omega arith) _ (rw (w.output-is, w.going-is) at c.close.ensures.output_after)
+    ]

@@ -1,9 +1,6 @@
-use Prim.Native.Nat.{◌-◌}
+use Rattle.std.proofs.Common.{◌*◌}
 use Rattle.linefile.proofs.Pacing.{Pacing}
 use Rattle.linefile.proofs.running.run_paced.Given as goal
 
 abbrev pub invariant-loop-i : goal.invariant-loop-i
-invariant-loop-i l = Pacing l.c l.file l.from l.n l.initial.output l.output l.g l.i
-
-abbrev pub decreases-loop-i : goal.decreases-loop-i
-decreases-loop-i l = l.n - l.i
+invariant-loop-i l = Pacing l.fn.contents.settings l.file (8 * l.fn.contents.start) l.fn.contents.count l.initial.output l.output l.going l.i

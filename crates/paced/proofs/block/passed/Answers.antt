@@ -9,6 +9,6 @@ pub returns : goal.returns
 returns c =
     let a = c.args in
     let l = array_length 16 a.b _ c.well_formed.1.0 in record {
-      line_value = block_line a.line c.requires.0 a.b a.n l c.requires.1 (zeros 16) c.run-reply.result refl c.run-reply.ensures.value;
-      out_value = block_out a.line c.requires.0 a.b a.n l c.requires.1 (zeros 16) _ refl c.run-reply.ensures.output_after;
+      line_value = block_line a.line c.requires.0 a.b a.n l c.requires.1 (zeros 16) _ refl c.run.ensures.line_after;
+      out_value = block_out a.line c.requires.0 a.b a.n l c.requires.1 (zeros 16) _ refl c.run.ensures.output_after;
     }

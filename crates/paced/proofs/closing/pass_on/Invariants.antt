@@ -1,9 +1,6 @@
-use Prim.Native.Nat.{◌-◌}
+use Rattle.line.specs.Good.{Good}
 use Rattle.line.proofs.Running.{Along, going}
 use Rattle.paced.proofs.closing.pass_on.Given as goal
 
 abbrev pub invariant-loop-i : goal.invariant-loop-i
-invariant-loop-i l = Along l.q l.initial.output l.from l.n (going l.initial.s) l.end l.output (going l.s) l.i
-
-abbrev pub decreases-loop-i : goal.decreases-loop-i
-decreases-loop-i l = l.end - l.i
+invariant-loop-i l = (g : Good l.initial.line) × (h : Good l.line) × Along l.q l.initial.output l.from l.n (going l.initial.line g) l.end l.output (going l.line h) l.i

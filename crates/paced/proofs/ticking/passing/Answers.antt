@@ -10,19 +10,10 @@ returns-then-n-w c =
     let a = c.args in
     move_none a.line c.requires.0 a.q a.at a.n _ (array_length 60 a.q _ c.well_formed.1.0) (array_bytes 60 a.q _ c.well_formed.1.0) c.width_of-w.ensures c.requires.1 c.if-n-w.true
 
-pub passed-t-requires : goal.passed-t-requires
-passed-t-requires c = (c.requires.0, omega (arith, width_most c.args.line.left, c.width_of-w.ensures))
-
-pub replaced-requires : goal.replaced-requires
-replaced-requires c = (
-  omega (arith, width_most c.args.line.left, c.width_of-w.ensures),
-  omega (arith, c.if-n-w.false, c.requires.1),
-)
-
 pub returns : goal.returns
 returns c =
     let a = c.args in
     move_some a.line c.requires.0 a.q a.at a.n _ (array_length 60 a.q _ c.well_formed.1.0) (array_bytes 60 a.q _ c.well_formed.1.0) c.width_of-w.ensures c.requires.1
-    c.read-b.result c.passed-t.result.out _ c.passed-t.result.line
+    c.read.result c.passed-t.result.out _ c.passed-t.result.line
     c.if-n-w.false (omega (arith, width_most a.line.left, c.width_of-w.ensures))
-    c.read-b.ensures c.passed-t.ensures.line_value c.passed-t.ensures.out_value c.replaced.ensures
+    c.read.ensures c.passed-t.ensures.line_value c.passed-t.ensures.out_value c.replaced.ensures

@@ -1,9 +1,0 @@
--- Where D is not 0 the remainder decides.
-use borrow.Author.Tests.{eq-eqb, ne_eqb}
-use Rattle.linefile.proofs.reader.is_ragged.Goals as goal
-
-pub returns-then-d-eq0 : goal.returns-then-d-eq0
-returns-then-d-eq0 c = rw (eq-eqb c.args.d 0 c.if-d-eq0.true)
-
-pub returns : goal.returns
-returns c = rw (ne_eqb c.args.d 0 c.if-d-eq0.false)
