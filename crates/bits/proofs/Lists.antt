@@ -71,6 +71,9 @@ small_one = under_one 2 (omega arith)
 pub bytes_drop : (s : List ℕ) (k : ℕ) → Bytes s → Bytes (drop k s)
 bytes_drop = under_drop 256 (omega arith)
 
+pub bytes_take : (k : ℕ) (s : List ℕ) → Bytes s → Bytes (take k s)
+bytes_take = under_take 256 (omega arith)
+
 pub bytes_append : (r s : List ℕ) → Bytes r → Bytes s → Bytes (r ++ s)
 bytes_append = under_append 256 (omega arith)
 

@@ -78,12 +78,13 @@ fn octet(high: u8, low: u8, q: usize) -> u8
 }
 
 // Fills d with the last q bits of `high` and then the bits of s, zeros where they run out.
-#[tactic(auto, using(crate::proofs::Octets::fill_octet, crate::proofs::Octets::fill_zero, crate::proofs::Octets::fill_done))]
+#[tactic(auto, using(crate::proofs::Octets::fill_octet, crate::proofs::Octets::fill_done))]
 fn pour(d: &mut [u8], s: &[u8], high: u8, q: usize)
     requires { q ≤ 8 }
     ensures { d.new ≡ pack (length d.old) (digits q high ++ bits_of s.now) }
 {
-    // Two loops: one over all of d that asks each time for a byte of s takes a tenth longer.
+    // Two loops: one over all of d that asks each time for a byte of s takes a tenth longer. The second asks all the same: of a loop that stores zeros the
+    // compiler makes a call of memset, which a box may not have.
     let n = d.len().min(s.len());
     let mut top = high;
     for i in 0..n {
@@ -92,8 +93,9 @@ fn pour(d: &mut [u8], s: &[u8], high: u8, q: usize)
         top = low;
     }
     for i in n..d.len() {
-        d[i] = octet(top, 0, q);
-        top = 0;
+        let low = byte(s, i);
+        d[i] = octet(top, low, q);
+        top = low;
     }
 }
 

@@ -48,6 +48,28 @@ module _ (n p : ℕ) where
   full_moves w v hv =
       last_is n w v 1 (omega arith) ∙ ap (drop 1) (sym (digits_push n w v hv)) ∙ digits_drop n (w * 2 + v) ∙ sym (digits_mod n (w * 2 + v))
 
+  -- one bit of a scan, on the numbers
+  fits : length (digits (suc n) p) - 1 ≡ n
+  fits = omega (arith, length_digits (suc n) p)
+
+  pub scan_few : (c w v : ℕ) (vs : List ℕ) → c < n → v < 2
+      → scan (digits (suc n) p) (digits c w) (v ∷ vs) ≡ more (scan (digits (suc n) p) (digits (suc c) (w * 2 + v)) vs)
+  scan_few c w v vs h hv =
+      scan_goes_on (digits (suc n) p) (digits c w) v vs (few_differ c w v h)
+      ∙ ap (λ (k : ℕ). more (scan (digits (suc n) p) (last k (digits c w ++ (v ∷ []))) vs)) fits
+      ∙ ap (λ (l : List ℕ). more (scan (digits (suc n) p) l vs)) (few_moves c w v h hv)
+
+  pub scan_hit : (w v : ℕ) (vs : List ℕ) → w < 2 ^ n → v < 2 → w * 2 + v < 2 ^ suc n → p < 2 ^ suc n → w * 2 + v ≡ p
+      → scan (digits (suc n) p) (digits n w) (v ∷ vs) ≡ record { count = 1; window = []; found = true }
+  scan_hit w v vs hw hv hx hp e = scan_ends (digits (suc n) p) (digits n w) v vs (full_same w v hw hv hx hp e)
+
+  pub scan_miss : (w v : ℕ) (vs : List ℕ) → v < 2 → w * 2 + v < 2 ^ suc n → p < 2 ^ suc n → (w * 2 + v ≡ p → ⊥)
+      → scan (digits (suc n) p) (digits n w) (v ∷ vs) ≡ more (scan (digits (suc n) p) (digits n ((w * 2 + v) % 2 ^ n)) vs)
+  scan_miss w v vs hv hx hp d =
+      scan_goes_on (digits (suc n) p) (digits n w) v vs (full_differ w v hv hx hp d)
+      ∙ ap (λ (k : ℕ). more (scan (digits (suc n) p) (last k (digits n w ++ (v ∷ []))) vs)) fits
+      ∙ ap (λ (l : List ℕ). more (scan (digits (suc n) p) l vs)) (full_moves w v hv)
+
 -- ---- the window after a bit
 
 -- the bits l are not the pattern, and the last 7 of them are the window from then on

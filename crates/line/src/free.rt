@@ -42,13 +42,13 @@ impl Line {
     pub fn opened(settings: Settings) -> Result<Line, Refusal>
         ensures { result ≡ opened_of settings.entry.key.now settings.entry.iv.now settings.entry.pattern settings.entry.l settings.entry.receiving }
     {
-        let key = <[u8; 16]>::try_from(settings.key).map_err(|_| Refusal::Key)?;
-        let iv = <[u8; 16]>::try_from(settings.iv).map_err(|_| Refusal::Iv)?;
+        let key = <&[u8; 16]>::try_from(settings.key).map_err(|_| Refusal::Key)?;
+        let iv = <&[u8; 16]>::try_from(settings.iv).map_err(|_| Refusal::Iv)?;
         if !(1..=11).contains(&settings.l) {
             return Err(Refusal::Blackout);
         }
         let l = settings.l as u8;
-        Ok(Line::fresh(key, iv, settings.pattern, l, settings.receiving))
+        Ok(Line::fresh(*key, *iv, settings.pattern, l, settings.receiving))
     }
 
     // Opens a line, sending or receiving; of a refused opening the line is a record of zeros.

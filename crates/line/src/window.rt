@@ -2,6 +2,9 @@
 ghost use Rattle.std.specs.Prelude.{◌≡◌, ◌^◌, ◌<◌, ◌≤◌, option_map};
 ghost use Rattle.line.specs.Window.{window_bits, with_bit, window_after};
 
+// The most bits that a window has.
+const MOST: u8 = 7;
+
 #[derive(Clone, Copy)]
 pub struct Window {
     pub bits: u8,
@@ -17,7 +20,7 @@ impl Window {
         ensures { option_map (λ w. window_bits w.seen w.bits) result ≡ window_after (with_bit self.seen self.bits bit) pattern }
     {
         let x = self.bits * 2 + bit as u8;
-        if self.seen < 7 {
+        if self.seen < MOST {
             let seen = self.seen + 1;
             Some(Window { bits: x, seen })
         } else if x == pattern {
@@ -25,7 +28,7 @@ impl Window {
         } else {
             Some(Window {
                 bits: x % 128,
-                seen: 7,
+                seen: MOST,
             })
         }
     }

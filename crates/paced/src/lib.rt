@@ -8,4 +8,4 @@ mod opening;
 mod queue;
 pub mod record;
 mod tests;
-mod ticking;
+pub mod ticking;

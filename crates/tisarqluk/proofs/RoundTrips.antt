@@ -24,6 +24,9 @@ free_held : (s : List ℕ) → holds_free s ≡ true → (58 ≤ length s) × ((
 unfolding holds_free
 free_held s h = grind arith
 
+pub free_long : (s : List ℕ) → holds_free s ≡ true → 58 ≤ length s
+free_long s h = (free_held s h).0
+
 pub free_stored_loaded : (s : List ℕ) → Bytes s → holds_free s ≡ true → stored_free (line_in s) s ≡ s
 free_stored_loaded s b h = let e = free_held s h in of_in 70 s e.0 e.1.0 e.1.1 b
 
@@ -39,6 +42,9 @@ paced_loaded_stored p s g = (
 paced_held : (s : List ℕ) → holds_paced s ≡ true → (126 ≤ length s) × ((get_or s 0 0 ≡ 80) × ((get_or s 3 0 ≤ 1) × (get_or s 59 0 ≤ 1)))
 unfolding holds_paced
 paced_held s h = grind arith
+
+pub paced_long : (s : List ℕ) → holds_paced s ≡ true → 126 ≤ length s
+paced_long s h = (paced_held s h).0
 
 pub paced_stored_loaded : (s : List ℕ) → Bytes s → holds_paced s ≡ true → stored_paced (paced_in s) s ≡ s
 paced_stored_loaded s b h = let e = paced_held s h in paced_of_in s e.0 e.1.0 e.1.1.0 e.1.1.1 b

@@ -1,9 +1,10 @@
 // A paced line for a host: opening, ticks and closing on its record in lent bytes.
-ghost use Rattle.std.specs.Prelude.{◌≡◌};
+ghost use Rattle.std.specs.Prelude.{◌≡◌, cond, leb, length};
+ghost use Rattle.paced.specs.Opening.{opening};
 ghost use Rattle.paced.specs.Ticking.{tick_answer};
 ghost use Rattle.paced.specs.Closing.{close_answer};
 ghost use Rattle.tisarqluk.specs.PacedRecord.{holds_paced, paced_in};
-ghost use Rattle.tisarqluk.specs.PacedCalls.{answer_of, opened_answer, opened_buffer};
+ghost use Rattle.tisarqluk.specs.PacedCalls.{answer_of, opened_kept, opened_answer, opened_buffer};
 ghost use Rattle.tisarqluk.specs.PacedCalls.{ticked_answer, ticked_buffer, ticked_output, closed_answer, closed_buffer, closed_output};
 ghost use Rattle.tisarqluk.specs.Inner.{where_held};
 
@@ -48,6 +49,18 @@ pub fn tq_paced_record_bytes() -> usize
     Paced::BYTES
 }
 
+// An opening that stores its line; a refused one leaves the buffer as it was.
+fn open(buf: &mut [u8], settings: Settings, d: u64) -> Result<(), Refusal>
+    ensures value { result ≡ where_held (leb 126 (length buf.old)) (opening settings.entry.key.now settings.entry.iv.now settings.entry.pattern settings.entry.l settings.entry.receiving d).answer }
+    ensures buf_after { buf.new ≡ cond (leb 126 (length buf.old)) (opened_kept (opening settings.entry.key.now settings.entry.iv.now settings.entry.pattern settings.entry.l settings.entry.receiving d) buf.old) buf.old }
+{
+    record::roomy::<Paced>(buf)?;
+    let opened = Paced::open(settings, d);
+    opened.answer?;
+    opened.line.store(buf);
+    Ok(())
+}
+
 // Opens a paced line in a buffer; direction 0 sends, any other receives.
 pub fn tq_paced_open(
     buf: &mut [u8],
@@ -68,8 +81,7 @@ pub fn tq_paced_open(
         l,
         receiving: direction != 0,
     };
-    let opened = Paced::opened(settings, d);
-    refusal::code(record::open_into(buf, opened))
+    refusal::code(open(buf, settings, d))
 }
 
 // A tick that stores the line after it; a refused one leaves the buffer as it was.
@@ -78,7 +90,9 @@ fn tick(buf: &mut [u8], input: &[u8], output: &mut [u8]) -> Result<Counts, Refus
     ensures buf_after { buf.new ≡ ticked_buffer buf.old input.now output.old }
     ensures output_after { output.new ≡ ticked_output buf.old input.now output.old }
 {
-    let mut line = Paced::load(buf).ok_or(Refusal::State)?;
+    let Some(mut line) = Paced::load(buf) else {
+        return Err(Refusal::State);
+    };
     let counts = line.tick(input, output)?;
     line.store(buf);
     Ok(counts)
@@ -99,7 +113,9 @@ fn close(buf: &mut [u8], output: &mut [u8]) -> Result<Counts, Refusal>
     ensures buf_after { buf.new ≡ closed_buffer buf.old output.old }
     ensures output_after { output.new ≡ closed_output buf.old output.old }
 {
-    let mut line = Paced::load(buf).ok_or(Refusal::State)?;
+    let Some(mut line) = Paced::load(buf) else {
+        return Err(Refusal::State);
+    };
     let counts = line.close(output)?;
     line.store(buf);
     Ok(counts)

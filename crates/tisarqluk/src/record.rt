@@ -1,6 +1,6 @@
-// A record in a lent buffer, of either kind (docs/RECORD.md), and what opening one in a buffer does.
-ghost use Rattle.std.specs.Prelude.{◌≡◌, ◌≤◌, Bool, IfSome, Some, None, cond, List, ℕ, length};
-ghost use Rattle.tisarqluk.specs.Inner.{open_into_answer, open_into_buffer};
+// A record in a lent buffer, of either kind (docs/RECORD.md), and what opening one in a buffer tries first.
+ghost use Rattle.std.specs.Prelude.{◌≡◌, ◌≤◌, Bool, IfSome, OnOk, Some, None, Ok, cond, leb, List, ℕ, length};
+ghost use Rattle.tisarqluk.specs.Inner.{where_held};
 
 use refusal::Refusal;
 
@@ -28,17 +28,13 @@ pub(crate) trait Record: Copy {
         ensures { buf.new ≡ stored self buf.old };
 }
 
-// Stores the line that an opening gives. A buffer that is too short is refused 9, before anything that the opening is refused for.
-pub(crate) fn open_into<R: Record>(
-    buf: &mut [u8],
-    opened: Result<R, Refusal>,
-) -> Result<(), Refusal>
-    ensures value { result ≡ open_into_answer R.BYTES opened buf.old }
-    ensures buf_after { buf.new ≡ open_into_buffer R.BYTES R.stored opened buf.old }
+// What an opening tries first: 9 where a buffer is too short.
+pub(crate) fn roomy<R: Record>(buf: &[u8]) -> Result<(), Refusal>
+    ensures value { result ≡ where_held (leb R.BYTES (length buf.now)) (Ok tt) }
+    ensures room { OnOk result (R.BYTES ≤ length buf.now) }
 {
     if buf.len() < R::BYTES {
         return Err(Refusal::State);
     }
-    opened?.store(buf);
     Ok(())
 }

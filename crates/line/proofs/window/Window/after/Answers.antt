@@ -2,17 +2,17 @@
 use Rattle.line.proofs.WindowBits.{moved_is, ended_is, moved_few, ends_here, moved_full}
 use Rattle.line.proofs.window.Window.after.Goals as goal
 
-pub returns-then-self-lt7 : goal.returns-then-self-lt7
-returns-then-self-lt7 c =
+pub returns-then-self-lt-MOST : goal.returns-then-self-lt-MOST
+returns-then-self-lt-MOST c =
     let w = c.args.self in
-    moved_is _ _ _ _ (moved_few w.seen w.bits c.args.bit c.args.pattern w.small c.if-self-lt7.true)
+    moved_is _ _ _ _ (moved_few w.seen w.bits c.args.bit c.args.pattern w.small c.if-self-lt-MOST.true)
 
 pub returns-then-x-pattern : goal.returns-then-x-pattern
 returns-then-x-pattern c =
     let w = c.args.self in
-    ended_is _ _ (ends_here w.seen w.bits c.args.bit c.args.pattern w.small w.few c.if-self-lt7.false c.ranges.pattern.fits c.if-x-pattern.true)
+    ended_is _ _ (ends_here w.seen w.bits c.args.bit c.args.pattern w.small w.few c.if-self-lt-MOST.false c.ranges.pattern.fits c.if-x-pattern.true)
 
 pub returns-else-x-pattern : goal.returns-else-x-pattern
 returns-else-x-pattern c =
     let w = c.args.self in
-    moved_is _ _ _ _ (moved_full w.seen w.bits c.args.bit c.args.pattern w.small w.few c.if-self-lt7.false c.ranges.pattern.fits c.if-x-pattern.false)
+    moved_is _ _ _ _ (moved_full w.seen w.bits c.args.bit c.args.pattern w.small w.few c.if-self-lt-MOST.false c.ranges.pattern.fits c.if-x-pattern.false)
