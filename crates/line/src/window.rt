@@ -2,8 +2,8 @@
 ghost use Rattle.std.specs.Prelude.{◌≡◌, ◌^◌, ◌<◌, ◌≤◌, option_map};
 ghost use Rattle.line.specs.Window.{window_bits, with_bit, window_after};
 
-// The most bits that a window has.
-const MOST: u8 = 7;
+// The bits of a full window: with one more they are as many as the pattern's.
+const FULL: u8 = 7;
 
 #[derive(Clone, Copy)]
 pub struct Window {
@@ -20,7 +20,7 @@ impl Window {
         ensures { option_map (λ w. window_bits w.seen w.bits) result ≡ window_after (with_bit self.seen self.bits bit) pattern }
     {
         let x = self.bits * 2 + bit as u8;
-        if self.seen < MOST {
+        if self.seen < FULL {
             let seen = self.seen + 1;
             Some(Window { bits: x, seen })
         } else if x == pattern {
@@ -28,7 +28,7 @@ impl Window {
         } else {
             Some(Window {
                 bits: x % 128,
-                seen: MOST,
+                seen: 7,
             })
         }
     }
